@@ -1,0 +1,91 @@
+-- One step of a hart by the tables of the RISC-V manuals.
+use Rattle.std.specs.Prelude.{ℕ, zero, suc, ◌+◌, ◌%◌, ◌^◌, pos, ◌+ℤ◌, ◌==◌, Option, Some, None, if◌then◌else◌}
+use Rattle.rv_fields.specs.declared.row_table.Ins.{Ins}
+use Rattle.rv_fields.specs.declared.row_table.Ins.TheVariants.{Jal, Addi}
+use Rattle.rv_fields.specs.declared.row_table.Ops.{Ops}
+use Rattle.rv_fields.specs.Attempt.{◌>>=◌}
+use Rattle.rv_fields.specs.Immediate.{wrapped}
+use Rattle.rv_fields.specs.Decode.{decoded}
+use Rattle.rv_fields.specs.Memory.{Seen, told}
+
+-- A hart: its number, the address of its next instruction, and its registers x0 to x31, of which x0 is 0.
+pub record Hart : Type 0 where
+  pub number : ℕ
+  pub pc : ℕ
+  pub x : ℕ → ℕ
+
+-- What a step does, as a trace tells it: the hart, the virtual and the physical address of the word, the
+-- word, and the register that it writes with its new value (none where that is x0).
+pub record Effect : Type 0 where
+  pub hart : ℕ
+  pub pc : ℕ
+  pub pa : ℕ
+  pub word : ℕ
+  pub rd : Option (ℕ × ℕ)
+
+-- the value that an instruction gives to its rd, and the address of the next instruction
+pub record Outcome : Type 0 where
+  pub value : ℕ
+  pub next : ℕ
+
+-- the address behind an instruction
+abbrev pub behind : ℕ → ℕ
+behind pc = (pc + 4) % 2 ^ 64
+
+-- A jump to the target. None where it is no multiple of 4: that traps, and traps aren't defined yet.
+abbrev pub jump : ℕ → ℕ → Option Outcome
+jump value target = if target % 4 == 0 then Some (record { value = value; next = target }) else None
+
+-- The meaning of an instruction at pc whose rs1 holds a and whose rs2 holds b: equations modulo 2^64.
+abbrev pub outcome : Ins → Ops → ℕ → ℕ → ℕ → Option Outcome
+outcome Jal ops pc a b = jump (behind pc) (wrapped (pos pc +ℤ ops.imm))
+outcome Addi ops pc a b = Some (record { value = wrapped (pos a +ℤ ops.imm); next = behind pc })
+
+-- the register that is written, and its value; x0 never is
+abbrev pub write_of : ℕ → ℕ → Option (ℕ × ℕ)
+write_of zero value = None
+write_of (suc r) value = Some (suc r, value)
+
+-- an instruction that retires: the effect, and the address of the next one
+pub record Retired : Type 0 where
+  pub effect : Effect
+  pub next : ℕ
+
+-- The word at pc, which stands at the physical address pa, retires on the hart. Of its registers the
+-- sources alone are asked. None where one of these isn't told, or the word has no row or no meaning.
+unfoldable pub retired : ℕ → ℕ → ℕ → ℕ → (ℕ → Option ℕ) → Option Retired
+retired hart pc pa word registers = do
+  d ← decoded word
+  a ← registers d.ops.rs1
+  b ← registers d.ops.rs2
+  o ← outcome d.ins d.ops pc a b
+  Some (record {
+    effect = record { hart = hart; pc = pc; pa = pa; word = word; rd = write_of d.ops.rd o.value };
+    next = o.next;
+  })
+
+-- a function that is as before but at one place
+abbrev pub updated : {A : Type 0} → (ℕ → A) → ℕ → A → ℕ → A
+updated f place a q = if q == place then a else f q
+
+-- the registers after a write, or after none
+abbrev pub with_write : (ℕ → ℕ) → Option (ℕ × ℕ) → ℕ → ℕ
+with_write x None = x
+with_write x (Some w) = updated x w.0 w.1
+
+-- a step: its effect, and the hart after it
+pub record Stepped : Type 0 where
+  pub effect : Effect
+  pub hart : Hart
+
+-- One step of a hart over what is told of memory. In mode M nothing is translated, so the word of an
+-- instruction stands at pc. None where the word isn't told or not in RAM, or doesn't retire.
+unfoldable pub step : Seen → Hart → Option Stepped
+step seen hart = do
+  word_told ← told seen hart.pc 4
+  word ← word_told
+  r ← retired hart.number hart.pc hart.pc word (λ q. Some (hart.x q))
+  Some (record {
+    effect = r.effect;
+    hart = record { number = hart.number; pc = r.next; x = with_write hart.x r.effect.rd };
+  })
