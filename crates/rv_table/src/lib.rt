@@ -1,0 +1,14 @@
+//! The instruction table, and what words say by it.
+#![tactic(auto)]
+
+mod decoding;
+mod rows;
+mod table;
+
+pub use decoding::decode;
+pub use rows::row;
+pub use rv_fields::{Form, Ins, Ops};
+pub use table::Row;
+
+#[cfg(test)]
+mod tests;
