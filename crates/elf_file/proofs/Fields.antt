@@ -1,0 +1,99 @@
+-- What the loader reads in a file's headers is what was written there.
+use Rattle.std.proofs.Common.{◌≡◌, ℕ, suc, ◌+◌, ◌*◌, ◌^◌, ◌<◌, List, [], ◌∷◌, ◌++◌, length, take, drop, map, refl, sym, ap, ◌∙◌, append_assoc, arith}
+use Rattle.std.specs.Int.{w16, w32, w64, to_le_bytes}
+use Rattle.std.specs.List.{flat_map, AllByRecursion}
+use Rattle.std.proofs.lemmas.List.{drop_at, drop-drop, length-append}
+use Rattle.std.proofs.lemmas.List.Concat.{flat_map-cons}
+use Rattle.std.proofs.lemmas.Nat.{from_le_bytes-to_le_bytes_2, from_le_bytes-to_le_bytes_4, from_le_bytes-to_le_bytes_8}
+use Rattle.rv_fields.specs.Memory.{number_of}
+use Rattle.elf_file.specs.Writing.{Placed, program_header, page}
+use Rattle.elf_file.specs.Loading.{field, ProgramHeader, header_at, headers_at}
+
+-- ---- numbers
+
+spelled_4 : (a b c d n : ℕ) → a + b * 256 + c * 65536 + d * 16777216 ≡ n → number_of (a ∷ b ∷ c ∷ d ∷ []) ≡ n
+spelled_4 a b c d n is = omega arith
+
+spelled_8 : (a b c d e f g h n : ℕ)
+    → a + b * 256 + c * 65536 + d * 16777216 + e * 4294967296 + f * 1099511627776 + g * 281474976710656 + h * 72057594037927936 ≡ n
+    → number_of (a ∷ b ∷ c ∷ d ∷ e ∷ f ∷ g ∷ h ∷ []) ≡ n
+spelled_8 a b c d e f g h n is = omega arith
+
+pub number_of-two : (n : ℕ) → n < 2 ^ 16 → number_of (to_le_bytes w16 n) ≡ n
+number_of-two n fits = omega (arith, from_le_bytes-to_le_bytes_2 n fits)
+
+pub number_of-four : (n : ℕ) → n < 2 ^ 32 → number_of (to_le_bytes w32 n) ≡ n
+number_of-four n fits = spelled_4 _ _ _ _ n (from_le_bytes-to_le_bytes_4 n fits)
+
+pub number_of-eight : (n : ℕ) → n < 2 ^ 64 → number_of (to_le_bytes w64 n) ≡ n
+number_of-eight n fits = spelled_8 _ _ _ _ _ _ _ _ n (from_le_bytes-to_le_bytes_8 n fits)
+
+-- ---- a program header
+
+-- an address as it is read again: modulo 2^64
+unfoldable pub read_again : ℕ → ℕ
+read_again at = number_of (to_le_bytes w64 at)
+
+pub read_again-same : (at : ℕ) → at < 2 ^ 64 → read_again at ≡ at
+unfolding read_again
+read_again-same at fits = number_of-eight at fits
+
+-- a placed segment whose place and sizes fit their fields
+pub record FitsFields (p : Placed) : Type 0 where
+  pub offset : p.offset < 2 ^ 64
+  pub filesz : length p.bytes < 2 ^ 64
+  pub memsz : p.size < 2 ^ 64
+
+abbrev pub header_of : Placed → ProgramHeader
+header_of p = record {
+  kind = 1;
+  flags = number_of (to_le_bytes w32 p.flags);
+  offset = p.offset;
+  vaddr = read_again p.at;
+  paddr = read_again p.at;
+  filesz = length p.bytes;
+  memsz = p.size;
+  align = page;
+}
+
+field_behind : (front file : List ℕ) (at k size : ℕ) → length front ≡ at → field (front ++ file) (at + k) size ≡ field file k size
+field_behind front file at k size is = ap (λ (xs : List ℕ). number_of (take size xs)) (sym (drop-drop k at (front ++ file)) ∙ ap (drop k) (drop_at front file at is))
+
+field_first : (front file : List ℕ) (at size : ℕ) → length front ≡ at → field (front ++ file) at size ≡ field file 0 size
+field_first front file at size is = ap (λ (xs : List ℕ). number_of (take size xs)) (drop_at front file at is)
+
+header_first : (p : Placed) (rest : List ℕ) → FitsFields p → header_at (program_header p ++ rest) 0 ≡ header_of p
+unfolding header_at read_again
+header_first p rest fits =
+    let offset = number_of-eight p.offset fits.offset in
+    let filesz = number_of-eight (length p.bytes) fits.filesz in
+    let memsz = number_of-eight p.size fits.memsz in
+    λ i. record (header_of p) { offset = offset i; filesz = filesz i; memsz = memsz i }
+
+header_behind : (front file : List ℕ) (at : ℕ) → length front ≡ at → header_at (front ++ file) at ≡ header_at file 0
+unfolding header_at
+header_behind front file at is = λ i. record {
+  kind = field_first front file at 4 is i;
+  flags = field_behind front file at 4 4 is i;
+  offset = field_behind front file at 8 8 is i;
+  vaddr = field_behind front file at 16 8 is i;
+  paddr = field_behind front file at 24 8 is i;
+  filesz = field_behind front file at 32 8 is i;
+  memsz = field_behind front file at 40 8 is i;
+  align = field_behind front file at 48 8 is i;
+}
+
+-- the headers of placed segments, one behind another, wherever they begin
+pub headers_at-placed : (ps : List Placed) (front rest : List ℕ) (at : ℕ) → length front ≡ at → AllByRecursion FitsFields ps
+    → headers_at (length ps) (front ++ (flat_map program_header ps ++ rest)) at ≡ map header_of ps
+headers_at-placed [] front rest at is fits = refl
+headers_at-placed (p ∷ ps) front rest at is fits =
+    let behind : List ℕ = flat_map program_header ps ++ rest in
+    let regrouped : front ++ (flat_map program_header (p ∷ ps) ++ rest) ≡ front ++ (program_header p ++ behind) =
+    ap (λ (xs : List ℕ). front ++ (xs ++ rest)) (flat_map-cons program_header p ps) ∙ ap (λ (xs : List ℕ). front ++ xs) (append_assoc (program_header p) (flat_map program_header ps) rest) in
+    let further : front ++ (program_header p ++ behind) ≡ (front ++ program_header p) ++ behind = sym (append_assoc front (program_header p) behind) in
+    let first : header_at (front ++ (program_header p ++ behind)) at ≡ header_of p = header_behind front (program_header p ++ behind) at is ∙ header_first p behind fits.0 in
+    let end : length (front ++ program_header p) ≡ at + 56 = length-append front (program_header p) ∙ ap (λ n. n + 56) is in
+    let others = headers_at-placed ps (front ++ program_header p) rest (at + 56) end fits.1 in
+    ap (λ (xs : List ℕ). headers_at (suc (length ps)) xs at) regrouped
+    ∙ (λ i. first i ∷ (ap (λ (xs : List ℕ). headers_at (length ps) xs (at + 56)) further ∙ others) i)

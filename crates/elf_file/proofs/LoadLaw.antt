@@ -1,0 +1,236 @@
+-- A file that is written for sound segments is loaded as their memory.
+use Rattle.std.proofs.Common.{◌≡◌, ℕ, suc, ◌+◌, ◌-◌, ◌*◌, ◌^◌, ◌<◌, ◌≤◌, true, false, eqb, ltb, leb, ◌&&◌, ◌||◌, cond, List, [], ◌∷◌, ◌++◌, length, get_or, map, ◌⊎◌, inl, inr, Some, None, refl, sym, ap, ◌∙◌, append_assoc, arith}
+use Rattle.std.specs.Prelude.{filter, unwrap_or}
+use Rattle.std.specs.List.{AllByRecursion, list_all, flat_map}
+use Rattle.std.proofs.lemmas.Bool.{and_parts, and_from, or_cases, or_right, or_left, eq-eqb, eqb-true, le-leb, leb-true, lt-ltb, le-ltb, lt-leb, cases_lt, and_left, and_right, cond-false}
+use Rattle.std.proofs.lemmas.List.{length-append, get_or_past}
+use Rattle.std.proofs.lemmas.List.Concat.{flat_map-cons}
+use Rattle.ram_image.specs.Segments.{span_of as span_of_stretch, Stretch, Span, stretch_byte, memory_of, lies_in_ram, is_apart, are_apart, has_room, are_sound}
+use Rattle.elf_file.specs.Writing.{Placed, placed_at, placed, page_from, trimmed, program_header, file_header, headers_size, elf_of}
+use Rattle.elf_file.specs.Loading.{ProgramHeader, headers_at, header_count, loads, has_header, is_this_machine, has_program_headers, span_of, is_whole, is_loadable, loaded_byte, memory_of_headers, load}
+use Rattle.elf_file.proofs.Fields.{FitsFields, read_again, read_again-same, header_of, headers_at-placed, number_of-two}
+use Rattle.elf_file.proofs.Trimming.{byte_of-trimmed, length-trimmed}
+use Rattle.elf_file.proofs.Bytes.{Has, has_placed, page_from-lt}
+use Rattle.elf_file.specs.Placing.{laid_from}
+
+-- ---- sound segments, placed in a file
+
+-- A placed segment that fits its header, has room for its bytes, and lies in RAM. Its address is read as it
+-- was written, unless it has no bytes in memory.
+pub record IsSound (p : Placed) : Type 0 where
+  pub fields : FitsFields p
+  pub room : length p.bytes ≤ p.size
+  pub ram : lies_in_ram (record { at = p.at; size = p.size }) ≡ true
+  pub at : (p.size ≡ 0) ⊎ (read_again p.at ≡ p.at)
+
+in_ram_parts : (at size : ℕ) → (leb 0x80000000 at && leb (at + size) 0x90000000) ≡ true → (0x80000000 ≤ at) × (at + size ≤ 0x90000000)
+in_ram_parts at size e =
+    let both = and_parts (leb 0x80000000 at) (leb (at + size) 0x90000000) e in
+    (leb-true 0x80000000 at both.0, leb-true (at + size) 0x90000000 both.1)
+
+pub ram_cases : (s : Span) → lies_in_ram s ≡ true → (s.size ≡ 0) ⊎ ((0x80000000 ≤ s.at) × (s.at + s.size ≤ 0x90000000))
+ram_cases s ram =
+    elim (or_cases (eqb s.size 0) (leb 0x80000000 s.at && leb (s.at + s.size) 0x90000000) ram) [
+      | inl e ↦ inl (eqb-true s.size 0 e)
+      | inr e ↦ inr (in_ram_parts s.at s.size e)
+    ]
+
+pub size_in_ram : (at size : ℕ) → (size ≡ 0) ⊎ ((0x80000000 ≤ at) × (at + size ≤ 0x90000000)) → size ≤ 0x10000000
+size_in_ram at size (inl none) = omega arith
+size_in_ram at size (inr within) = omega (arith, within)
+
+address_read : (at size : ℕ) → (size ≡ 0) ⊎ ((0x80000000 ≤ at) × (at + size ≤ 0x90000000)) → (size ≡ 0) ⊎ (read_again at ≡ at)
+address_read at size (inl none) = inl none
+address_read at size (inr within) = inr (read_again-same at (omega (arith, within)))
+
+sound_placed : (ss : List Stretch) (end : ℕ) → list_all has_room ss ≡ true → list_all (λ s. lies_in_ram (span_of_stretch s)) ss ≡ true
+    → end + 2 ^ 29 * length ss < 2 ^ 63 → AllByRecursion IsSound (placed end ss)
+sound_placed [] end rooms rams low = tt
+sound_placed (s ∷ ss) end rooms rams low =
+    let room = and_parts (has_room s) (list_all has_room ss) rooms in
+    let ram = and_parts (lies_in_ram (span_of_stretch s)) (list_all (λ s. lies_in_ram (span_of_stretch s)) ss) rams in
+    let cases = ram_cases (span_of_stretch s) ram.0 in
+    let small : s.size ≤ 0x10000000 = size_in_ram s.at s.size cases in
+    let fits : length s.bytes ≤ s.size = leb-true (length s.bytes) s.size room.0 in
+    let kept : length (trimmed s.bytes) ≤ length s.bytes = length-trimmed s.bytes in
+    let near : page_from end < end + 4096 = page_from-lt end in
+    let further : page_from end + length (trimmed s.bytes) + 2 ^ 29 * length ss < 2 ^ 63 = omega arith in (
+      record {
+        fields = record { offset = omega arith; filesz = omega arith; memsz = omega arith };
+        room = omega arith;
+        ram = ram.0;
+        at = address_read s.at s.size cases;
+      },
+      sound_placed ss (page_from end + length (trimmed s.bytes)) room.1 ram.1 further,
+    )
+
+all_fields : (ps : List Placed) → AllByRecursion IsSound ps → AllByRecursion FitsFields ps
+all_fields [] sound = tt
+all_fields (p ∷ ps) sound = (sound.0.fields, all_fields ps sound.1)
+
+-- ---- the headers of a file
+
+pub length-headers : (ps : List Placed) → length (flat_map program_header ps) ≡ 56 * length ps
+length-headers [] = refl
+length-headers (p ∷ ps) = omega (arith, ap length (flat_map-cons program_header p ps), length-append (program_header p) (flat_map program_header ps), length-headers ps)
+
+count_of_header : (n : ℕ) (rest : List ℕ) → n < 2 ^ 16 → header_count (file_header n ++ rest) ≡ n
+count_of_header n rest fits = number_of-two n fits
+
+begins : (n : ℕ) (rest : List ℕ) → has_header (file_header n ++ rest) ≡ true
+begins n rest = and_from _ _ (le-leb 64 (length (file_header n ++ rest)) (omega (arith, length-append (file_header n) rest))) refl
+
+is_ours : (n : ℕ) (rest : List ℕ) → is_this_machine (file_header n ++ rest) ≡ true
+is_ours n rest = refl
+
+to_load : (ps : List Placed) → filter (λ h. eqb h.kind 1) (map header_of ps) ≡ map header_of ps
+to_load [] = refl
+to_load (p ∷ ps) = ap (λ hs. header_of p ∷ hs) (to_load ps)
+
+loads_placed : (ps : List Placed) (rest : List ℕ) → length ps < 2 ^ 16 → AllByRecursion FitsFields ps
+    → loads (file_header (length ps) ++ (flat_map program_header ps ++ rest)) ≡ map header_of ps
+loads_placed ps rest few fits =
+    let file : List ℕ = file_header (length ps) ++ (flat_map program_header ps ++ rest) in
+    let counted : headers_at (header_count file) file 64 ≡ headers_at (length ps) file 64 =
+    ap (λ n. headers_at n file 64) (count_of_header (length ps) (flat_map program_header ps ++ rest) few) in
+    ap (λ hs. filter (λ h. eqb h.kind 1) hs) (counted ∙ headers_at-placed ps (file_header (length ps)) rest 64 refl fits) ∙ to_load ps
+
+headers_there : (ps : List Placed) (rest : List ℕ) → length ps < 2 ^ 16
+    → has_program_headers (file_header (length ps) ++ (flat_map program_header ps ++ rest)) ≡ true
+headers_there ps rest few =
+    let behind : List ℕ = flat_map program_header ps ++ rest in
+    let count = count_of_header (length ps) behind few in
+    or_right _ _ (le-leb (64 + 56 * header_count (file_header (length ps) ++ behind)) (length (file_header (length ps) ++ behind))
+    (omega (arith, count, length-headers ps, length-append (file_header (length ps)) behind, length-append (flat_map program_header ps) rest)))
+
+-- ---- the segments of a file
+
+abbrev span_at : ℕ → ℕ → Span
+span_at at size = record { at = at; size = size }
+
+ram_read : (p : Placed) → IsSound p → lies_in_ram (span_of (header_of p)) ≡ true
+ram_read p sound =
+    elim sound.at [
+      | inl none ↦ or_left _ _ (eq-eqb p.size 0 none)
+      | inr same ↦ ap (λ at. lies_in_ram (span_at at p.size)) same ∙ sound.ram
+    ]
+
+whole : (file : List ℕ) (p : Placed) → IsSound p → Has file p → is_whole file (header_of p) ≡ true
+whole file p sound has =
+    let there : (eqb (length p.bytes) 0 || leb (p.offset + length p.bytes) (length file)) ≡ true =
+    elim has.there [
+      | inl none ↦ or_left _ _ (eq-eqb (length p.bytes) 0 none)
+      | inr some ↦ or_right _ _ (le-leb (p.offset + length p.bytes) (length file) some)
+    ] in
+    and_from _ _ (and_from _ _ (le-leb (length p.bytes) p.size sound.room) (ram_read p sound)) there
+
+all_whole : (file : List ℕ) (ps : List Placed) → AllByRecursion IsSound ps → AllByRecursion (Has file) ps → list_all (is_whole file) (map header_of ps) ≡ true
+all_whole file [] sound has = refl
+all_whole file (p ∷ ps) sound has = and_from _ _ (whole file p sound.0 has.0) (all_whole file ps sound.1 has.1)
+
+apart_none : (s t : Span) → s.size ≡ 0 → is_apart s t ≡ true
+apart_none s t none = or_left _ _ (or_left _ _ (or_left _ _ (eq-eqb s.size 0 none)))
+
+apart_other_none : (s t : Span) → t.size ≡ 0 → is_apart s t ≡ true
+apart_other_none s t none = or_left _ _ (or_left _ _ (or_right _ _ (eq-eqb t.size 0 none)))
+
+apart_read : (a b c d size other : ℕ) → (size ≡ 0) ⊎ (a ≡ b) → (other ≡ 0) ⊎ (c ≡ d)
+    → is_apart (span_at a size) (span_at c other) ≡ is_apart (span_at b size) (span_at d other)
+apart_read a b c d size other (inl none) two = apart_none (span_at a size) (span_at c other) none ∙ sym (apart_none (span_at b size) (span_at d other) none)
+apart_read a b c d size other (inr one) (inl none) = apart_other_none (span_at a size) (span_at c other) none ∙ sym (apart_other_none (span_at b size) (span_at d other) none)
+apart_read a b c d size other (inr one) (inr two) = λ i. is_apart (span_at (one i) size) (span_at (two i) other)
+
+apart_from_placed : (at read size : ℕ) (ss : List Stretch) (end : ℕ) → (size ≡ 0) ⊎ (read ≡ at) → AllByRecursion IsSound (placed end ss)
+    → list_all (is_apart (span_at read size)) (map span_of (map header_of (placed end ss))) ≡ list_all (is_apart (span_at at size)) (map span_of_stretch ss)
+apart_from_placed at read size [] end same sound = refl
+apart_from_placed at read size (s ∷ ss) end same sound =
+    let one = apart_read read at (read_again s.at) s.at size s.size same sound.0.at in
+    let others = apart_from_placed at read size ss (page_from end + length (trimmed s.bytes)) same sound.1 in
+    λ i. one i && others i
+
+apart_placed : (ss : List Stretch) (end : ℕ) → AllByRecursion IsSound (placed end ss)
+    → are_apart (map span_of (map header_of (placed end ss))) ≡ are_apart (map span_of_stretch ss)
+apart_placed [] end sound = refl
+apart_placed (s ∷ ss) end sound =
+    let behind : ℕ = page_from end + length (trimmed s.bytes) in
+    let one = apart_from_placed s.at (read_again s.at) s.size ss behind sound.0.at sound.1 in
+    let others = apart_placed ss behind sound.1 in
+    λ i. one i && others i
+
+-- ---- memory
+
+nowhere : (at a size : ℕ) → size ≡ 0 → (leb at a && ltb a (at + size)) ≡ false
+nowhere at a size none =
+    elim (cases_lt a at) [
+      | inl lt ↦ and_left _ _ (lt-leb at a lt)
+      | inr le ↦ and_right _ _ (le-ltb a (at + size) (omega arith))
+    ]
+
+module _ (file : List ℕ) (a : ℕ) where
+  byte_placed : (s : Stretch) (offset i : ℕ) → Has file (placed_at offset s)
+      → cond (ltb i (length (trimmed s.bytes))) (get_or file (offset + i) 0) 0 ≡ get_or s.bytes i 0
+  byte_placed s offset i has =
+      elim (cases_lt i (length (trimmed s.bytes))) [
+        | inl lt ↦ rw (lt-ltb i (length (trimmed s.bytes)) lt) (has.bytes i lt ∙ byte_of-trimmed s.bytes i)
+        | inr le ↦ rw (le-ltb i (length (trimmed s.bytes)) le) (sym (get_or_past (trimmed s.bytes) i 0 le) ∙ byte_of-trimmed s.bytes i)
+      ]
+
+  loaded_placed : (s : Stretch) (offset : ℕ) → Has file (placed_at offset s) → (s.size ≡ 0) ⊎ (read_again s.at ≡ s.at)
+      → loaded_byte file (header_of (placed_at offset s)) a ≡ stretch_byte s a
+  loaded_placed s offset has (inl none) =
+      cond-false _ _ None (nowhere (read_again s.at) a s.size none) ∙ sym (cond-false _ _ None (nowhere s.at a s.size none))
+  loaded_placed s offset has (inr same) =
+      ap (λ at. loaded_byte file (record (header_of (placed_at offset s)) { paddr = at }) a) same
+      ∙ ap (λ b. cond (leb s.at a && ltb a (s.at + s.size)) (Some b) None) (byte_placed s offset (a - s.at) has)
+
+  memory_placed : (ss : List Stretch) (end : ℕ) → AllByRecursion IsSound (placed end ss) → AllByRecursion (Has file) (placed end ss)
+      → memory_of_headers file (map header_of (placed end ss)) a ≡ memory_of ss a
+  memory_placed [] end sound has = refl
+  memory_placed (s ∷ ss) end sound has =
+      let one = loaded_placed s (page_from end) has.0 sound.0.at in
+      let others = memory_placed ss (page_from end + length (trimmed s.bytes)) sound.1 has.1 in
+      λ i. unwrap_or (one i) (others i)
+
+-- ---- the law
+
+pub length-placed : (ss : List Stretch) (end : ℕ) → length (placed end ss) ≡ length ss
+length-placed [] end = refl
+length-placed (s ∷ ss) end = ap suc (length-placed ss (page_from end + length (trimmed s.bytes)))
+
+loadable : (file : List ℕ) (hs : List ProgramHeader) → loads file ≡ hs → has_header file ≡ true → is_this_machine file ≡ true → has_program_headers file ≡ true
+    → list_all (is_whole file) hs ≡ true → are_apart (map span_of hs) ≡ true → is_loadable file ≡ true
+unfolding is_loadable
+loadable file hs is begun ours there wholes apart =
+    and_from _ _ (and_from _ _ (and_from _ _ (and_from _ _ begun ours) there) (ap (list_all (is_whole file)) is ∙ wholes)) (ap (λ xs. are_apart (map span_of xs)) is ∙ apart)
+
+loaded : (file : List ℕ) (hs : List ProgramHeader) (a m : ℕ) → loads file ≡ hs → is_loadable file ≡ true → memory_of_headers file hs a ≡ m → load file a ≡ Some m
+loaded file hs a m is sound memory = rw (sound, is, memory) refl
+
+-- the law for a file in three parts: its header, the program headers, and the bytes
+load_parts : (ss : List Stretch) (end a : ℕ) (rest : List ℕ) → length (placed end ss) < 2 ^ 16 → AllByRecursion IsSound (placed end ss)
+    → are_apart (map span_of_stretch ss) ≡ true
+    → let file : List ℕ = file_header (length (placed end ss)) ++ (flat_map program_header (placed end ss) ++ rest) in
+    AllByRecursion (Has file) (placed end ss) → load file a ≡ Some (memory_of ss a)
+load_parts ss end a rest few sound apart has =
+    let ps : List Placed = placed end ss in
+    let behind : List ℕ = flat_map program_header ps ++ rest in
+    let file : List ℕ = file_header (length ps) ++ behind in
+    let is : loads file ≡ map header_of ps = loads_placed ps rest few (all_fields ps sound) in
+    let spans : are_apart (map span_of (map header_of ps)) ≡ true = apart_placed ss end sound ∙ apart in
+    let fit : is_loadable file ≡ true = loadable file (map header_of ps) is (begins (length ps) behind) (is_ours (length ps) behind) (headers_there ps rest few) (all_whole file ps sound has) spans in
+    loaded file (map header_of ps) a (memory_of ss a) is fit (memory_placed file a ss end sound has)
+
+pub load-elf_of : (ss : List Stretch) (a : ℕ) → length ss ≤ 72 → are_sound ss ≡ true → load (elf_of ss) a ≡ Some (memory_of ss a)
+load-elf_of ss a few sound =
+    let end : ℕ = headers_size (length ss) in
+    let ps : List Placed = placed end ss in
+    let bytes : List ℕ = laid_from (headers_size (length ps)) ps in
+    let count : length ps ≡ length ss = length-placed ss end in
+    let parts = and_parts (list_all has_room ss && list_all (λ s. lies_in_ram (span_of_stretch s)) ss) (are_apart (map span_of_stretch ss)) sound in
+    let each = and_parts (list_all has_room ss) (list_all (λ s. lies_in_ram (span_of_stretch s)) ss) parts.0 in
+    let all : AllByRecursion IsSound ps = sound_placed ss end each.0 each.1 (omega arith) in
+    let headers : List ℕ = file_header (length ps) ++ flat_map program_header ps in
+    let split : elf_of ss ≡ file_header (length ps) ++ (flat_map program_header ps ++ bytes) = append_assoc (file_header (length ps)) (flat_map program_header ps) bytes in
+    let long : length headers ≡ headers_size (length ps) = omega (arith, length-append (file_header (length ps)) (flat_map program_header ps), length-headers ps) in
+    let has = has_placed ss headers (headers_size (length ps)) end (file_header (length ps) ++ (flat_map program_header ps ++ bytes)) long (omega arith) (sym split) in
+    ap (λ file. load file a) split ∙ load_parts ss end a bytes (omega arith) all parts.1 has
