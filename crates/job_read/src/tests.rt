@@ -1,0 +1,148 @@
+use super::*;
+use region_plan::{Pins, Request};
+use rv_fields::Ins;
+use std::alloc::{AllocError, Global};
+use std::test::*;
+
+const ADDI: &str = r#"{"ins":"addi","rd":1,"rs1":0,"imm":5}"#;
+
+const HART: &str = r#"{"mode":"M","code_pages":1,"template":[]}"#;
+
+/// The file of a job with these harts.
+fn file_of(alloc: Global, harts: &str) -> Result<String, AllocError> {
+    format!(in alloc; r#"{{"version":1,"harts":[{harts}]}}"#)
+}
+
+/// The hart with this template.
+fn hart_of(alloc: Global, template: &str) -> Result<String, AllocError> {
+    format!(in alloc; r#"{{"mode":"M","code_pages":1,"template":[{template}]}}"#)
+}
+
+/// The file of a job of one hart with this template.
+fn job_of(alloc: Global, template: &str) -> Result<String, AllocError> {
+    file_of(alloc, hart_of(alloc, template)?.as_str())
+}
+
+/// A template of so many requests, one or more.
+fn template_of(alloc: Global, count: usize) -> Result<String, AllocError> {
+    let mut template = String::from_str(alloc, ADDI)?;
+    for _ in 1..count {
+        template.push_str(",")?;
+        template.push_str(ADDI)?;
+    }
+    Ok(template)
+}
+
+fn is_not_built(alloc: Global, text: &str) -> bool {
+    matches!(read_job(alloc, text.as_bytes()), Err(InputFault::NotBuilt))
+}
+
+#[test]
+fn reads_a_request(rt: HostRuntime) -> Result<(), Fail> {
+    let text =
+        br#"{"version":1,"harts":[{"mode":"M","code_pages":1,"template":[{"ins":"addi","rd":1,"rs1":0,"imm":5}]}]}"#;
+    let job = read_job(rt.alloc(), text)?;
+    let pins = Pins {
+        rd: 1,
+        rs1: 0,
+        imm: 5,
+    };
+    assert_eq!(rt; job.hart_count(), 1);
+    assert_eq!(rt;
+        job.template(0),
+        [Request::Ins {
+            ins: Ins::Addi,
+            pins
+        }]
+        .as_slice()
+    );
+    Ok(())
+}
+
+#[test]
+fn reads_an_empty_template(rt: HostRuntime) -> Result<(), Fail> {
+    for text in [
+        r#"{"version":1,"harts":[{"mode":"M","code_pages":1,"template":[]}]}"#,
+        r#" { "harts" : [ { "template" : [ ] , "code_pages" : 1 , "mode" : "M" } ] , "version" : 1 } "#,
+        r#"{"version":2,"version":1,"harts":[{"mode":"M","code_pages":1,"template":[]}]}"#,
+    ] {
+        let job = read_job(rt.alloc(), text.as_bytes())?;
+        assert_eq!(rt; job.hart_count(), 1, "{text}");
+        assert!(rt; job.template(0).is_empty(), "{text}");
+    }
+    Ok(())
+}
+
+#[test]
+fn reads_up_to_1000_requests(rt: HostRuntime) -> Result<(), Fail> {
+    let most = job_of(rt.alloc(), template_of(rt.alloc(), 1000)?.as_str())?;
+    let job = read_job(rt.alloc(), most.as_bytes())?;
+    assert_eq!(rt; job.hart_count(), 1);
+    assert_eq!(rt; job.template(0).len(), 1000);
+    let more = job_of(rt.alloc(), template_of(rt.alloc(), 1001)?.as_str())?;
+    assert!(rt; is_not_built(rt.alloc(), more.as_str()));
+    Ok(())
+}
+
+#[test]
+fn reads_immediates_of_12_bits(rt: HostRuntime) -> Result<(), Fail> {
+    for (imm, fits) in [(2047, true), (2048, false), (-2048, true), (-2049, false)] {
+        let request = format!(in rt.alloc(); r#"{{"ins":"addi","rd":31,"rs1":0,"imm":{imm}}}"#)?;
+        let text = job_of(rt.alloc(), request.as_str())?;
+        assert_eq!(rt;
+            read_job(rt.alloc(), text.as_bytes()).is_ok(),
+            fits,
+            "{imm}"
+        );
+        assert_eq!(rt; is_not_built(rt.alloc(), text.as_str()), !fits, "{imm}");
+    }
+    Ok(())
+}
+
+#[test]
+fn refuses_other_requests(rt: HostRuntime) -> Result<(), Fail> {
+    for request in [
+        r#"{"ins":"addi","rd":32,"rs1":0,"imm":5}"#,
+        r#"{"ins":"addi","rd":1,"rs1":1,"imm":5}"#,
+        r#"{"ins":"add","rd":1,"rs1":0,"imm":5}"#,
+        r#"{"ins":"addi","rd":"1","rs1":0,"imm":5}"#,
+        r#"{"ins":"addi","rd":1,"rs1":0}"#,
+        r#"{"ins":"addi","rd":1,"rs1":0,"imm":5,"avoid":0}"#,
+    ] {
+        let text = job_of(rt.alloc(), request)?;
+        assert!(rt; is_not_built(rt.alloc(), text.as_str()), "{request}");
+    }
+    Ok(())
+}
+
+#[test]
+fn refuses_other_harts(rt: HostRuntime) -> Result<(), Fail> {
+    let two = format!(in rt.alloc(); "{HART},{HART}")?;
+    for harts in [
+        "",
+        two.as_str(),
+        r#"{"mode":"S","code_pages":1,"template":[]}"#,
+        r#"{"mode":"M","code_pages":2,"template":[]}"#,
+        r#"{"mode":"M","code_pages":1}"#,
+    ] {
+        let text = file_of(rt.alloc(), harts)?;
+        assert!(rt; is_not_built(rt.alloc(), text.as_str()), "{harts}");
+    }
+    Ok(())
+}
+
+#[test]
+fn refuses_other_files(rt: HostRuntime) {
+    for text in [
+        r#"{"version":2,"harts":[{"mode":"M","code_pages":1,"template":[]}]}"#,
+        r#"{"version":1.0,"harts":[{"mode":"M","code_pages":1,"template":[]}]}"#,
+        r#"{"version":1,"version":2,"harts":[{"mode":"M","code_pages":1,"template":[]}]}"#,
+        r#"{"version":1,"harts":[{"mode":"M","code_pages":1,"template":[]}],"avoid":[]}"#,
+        r#"{"version":1}"#,
+        "[]",
+        "{",
+    ] {
+        assert!(rt; is_not_built(rt.alloc(), text), "{text}");
+    }
+    assert!(rt; matches!(read_job(rt.alloc(), &[0xFF]), Err(InputFault::NotBuilt)));
+}
