@@ -1,0 +1,69 @@
+-- The words of the boot block by their places.
+use Rattle.std.proofs.Common.{ℕ, zero, suc, ◌+◌, ◌*◌, ◌<◌, ◌≡◌, ◌≢◌, Bool, true, false, ◌&&◌, eqb, List, length, get_or, set, arith, refl, ap, ◌∙◌, inl, inr}
+use Rattle.std.proofs.Common.{below_more, get_or-set_other, get_or-set_same, lit<}
+use Rattle.std.proofs.Math.ListN.{length-set}
+use Rattle.std.proofs.lemmas.Grind.{same_number_lists}
+use Rattle.std.proofs.lemmas.Bool.{eqb-true}
+use Rattle.std.proofs.lemmas.Bool.Decides.{eqb_tells}
+use Rattle.boot_words.specs.Boot.{boot_block, boot_csr_numbers, load_word, write_word}
+
+-- whether the test holds at each number below n
+holds_below : (ℕ → Bool) → ℕ → Bool
+holds_below p zero = true
+holds_below p (suc n) = p n && holds_below p n
+
+first_true : (a b : Bool) → (a && b) ≡ true → a ≡ true
+first_true true b h = refl
+first_true false b h = h
+
+second_true : (a b : Bool) → (a && b) ≡ true → b ≡ true
+second_true true b h = h
+second_true false b h = cc
+
+holds_at : (p : ℕ → Bool) (n : ℕ) → holds_below p n ≡ true → (k : ℕ) → k < n → p k ≡ true
+unfolding holds_below
+holds_at p zero h k lt = absurd (omega arith)
+holds_at p (suc n) h k lt =
+    elim (eqb_tells k n) [
+      | inl same ↦ ap p same.1 ∙ first_true (p n) (holds_below p n) h
+      | inr other ↦ holds_at p n (second_true (p n) (holds_below p n) h) k (let ne : k ≢ n = other.1 in omega arith)
+    ]
+
+pub csr_load_at : (k : ℕ) → k < 15 → load_word 30 (0x400 + 8 * k) ≡ get_or boot_block (2 * k + 1) 0
+unfolding holds_below
+csr_load_at k lt = eqb-true _ _ (holds_at (λ i. eqb (load_word 30 (0x400 + 8 * i)) (get_or boot_block (2 * i + 1) 0)) 15 refl k lt)
+
+pub csr_write_at : (k : ℕ) → k < 15 → write_word (get_or boot_csr_numbers k 0) ≡ get_or boot_block (2 * k + 2) 0
+unfolding holds_below
+csr_write_at k lt =
+    eqb-true _ _ (holds_at (λ i. eqb (write_word (get_or boot_csr_numbers i 0)) (get_or boot_block (2 * i + 2) 0)) 15 refl k lt)
+
+pub register_load_at : (k : ℕ) → k < 31 → load_word (k + 1) (0x478 + 8 * k) ≡ get_or boot_block (31 + k) 0
+unfolding holds_below
+register_load_at k lt =
+    eqb-true _ _ (holds_at (λ i. eqb (load_word (i + 1) (0x478 + 8 * i)) (get_or boot_block (31 + i) 0)) 31 refl k lt)
+
+-- the 63 words are those of the boot block as far as place n
+pub record IsBlockUpTo (n : ℕ) (words : List ℕ) : Type 0 where
+  pub long : length words ≡ 63
+  pub same : (k : ℕ) → k < n → get_or words k 0 ≡ get_or boot_block k 0
+
+-- one more word is written
+pub write_more : (words : List ℕ) (place word n : ℕ) → place + 1 ≡ n → n < 64 → IsBlockUpTo place words
+    → word ≡ get_or boot_block place 0 → IsBlockUpTo n (set words place word)
+write_more words place word n next room before is =
+    let lt : place < length words = omega arith in
+    record {
+      long = length-set words place word ∙ before.long;
+      same = let same_next : (k : ℕ) → k < place + 1 → get_or (set words place word) k 0 ≡ get_or boot_block k 0 =
+          below_more _ _
+          (λ k below. let other : k ≢ place = omega arith in rw get_or-set_other (before.same k below))
+          (rw get_or-set_same is)
+          in λ k below. same_next k (omega arith);
+    }
+
+-- with its last word the block is whole
+pub whole_block : (words : List ℕ) → IsBlockUpTo 62 words → set words 62 0x30200073 ≡ boot_block
+whole_block words before =
+    let whole : IsBlockUpTo 63 (set words 62 0x30200073) = write_more words 62 0x30200073 63 refl (lit< tt) before refl in
+    same_number_lists _ _ whole.long (λ k lt. whole.same k (omega arith))

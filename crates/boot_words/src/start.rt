@@ -1,0 +1,50 @@
+ghost use Rattle.std.specs.Prelude.{◌≡◌};
+ghost use Rattle.boot_words.specs.Boot.{boot_csrs, boot_registers};
+
+use crate::layout::{M_HANDLER_AT, code_start};
+
+/// mstatus with M in its field MPP, so that mret goes on in mode M.
+const MPP_IS_M: u64 = 0x1800;
+
+/// The virtual address of the handler of mode S: the last page of the lower half of Sv39.
+const S_HANDLER_PAGE: u64 = 0x3f_ffff_f000;
+
+/// The highest address that pmpaddr0 can hold, so that its entry covers all memory.
+const ALL_MEMORY: u64 = 0x3f_ffff_ffff_ffff;
+
+/// pmpcfg0 with a naturally aligned region open to reads, writes and fetches.
+const OPEN_TO_ALL: u64 = 0x1f;
+
+/// What a boot block loads: the CSRs in the order in which it writes them, and x1 to x31.
+#[derive(Clone, Copy)]
+pub struct BootValues {
+    pub csrs: [u64; 15],
+    pub x: [u64; 31],
+}
+
+/// The values that a hart starts with.
+pub fn boot_values(hart: u8) -> BootValues
+    ensures csrs { result.csrs ≡ boot_csrs hart }
+    ensures registers { result.x ≡ boot_registers }
+{
+    BootValues {
+        csrs: [
+            MPP_IS_M, // mstatus
+            0, // medeleg
+            0, // mideleg
+            0, // mie
+            M_HANDLER_AT, // mtvec
+            0, // mscratch
+            code_start(hart), // mepc
+            S_HANDLER_PAGE, // stvec
+            0, // sscratch
+            0, // sepc
+            0, // scause
+            0, // stval
+            0, // satp
+            ALL_MEMORY, // pmpaddr0
+            OPEN_TO_ALL, // pmpcfg0
+        ],
+        x: [0; 31],
+    }
+}

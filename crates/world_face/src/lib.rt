@@ -1,0 +1,2 @@
+//! What harts and the world around them have in common: events, and runs of machines over lines.
+#![tactic(auto)]
