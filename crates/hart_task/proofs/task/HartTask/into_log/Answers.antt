@@ -1,0 +1,6 @@
+-- The log of a finished task is that of a finished run.
+use Rattle.hart_task.proofs.Standing.{log_of}
+use Rattle.hart_task.proofs.task.HartTask.into_log.Goals as goal
+
+pub returns : goal.returns
+returns c = λ work rules task. log_of work c.args.self rules task c.requires

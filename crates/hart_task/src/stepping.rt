@@ -1,0 +1,52 @@
+ghost use Rattle.std.specs.Prelude.{◌≡◌, IsTrue, IsSome, Some, slice_index};
+ghost use Rattle.rv_fields.specs.Decode.{decoded};
+ghost use Rattle.rv_fields.specs.Memory.{in_ram};
+ghost use Rattle.rv_fields.specs.Step.{retired, with_write};
+ghost use Rattle.region_plan.specs.Rules.{IsMakeable};
+ghost use Rattle.trace_text.specs.Views.{effect_seen};
+ghost use Rattle.hart_task.specs.Task.{asked};
+
+use crate::bus::OneWord;
+use region_plan::Request;
+use rv_encode::encode;
+use rv_fields::Ops;
+use rv_step::{Hart, step};
+use trace_text::StepLine;
+
+/// The word that the request makes.
+pub fn word_of(request: Request) -> u32
+    requires { IsMakeable request }
+    ensures { decoded result ≡ Some (asked request) }
+{
+    let Request::Ins { ins, pins } = request;
+    let ops = Ops {
+        rd: pins.rd,
+        rs1: pins.rs1,
+        rs2: 0,
+        imm: pins.imm,
+        aqrl: 0,
+    };
+    encode(ins, &ops).unwrap()
+}
+
+/// Steps the word, which stands at the hart's pc.
+pub fn step_word(hart: &mut Hart, word: u32) -> StepLine
+    requires zero { slice_index hart.old.x 0 ≡ 0 }
+    requires in_ram { IsTrue (in_ram hart.old.pc 4) }
+    requires retires { IsSome (retired hart.old.number hart.old.pc hart.old.pc word (λ r. Some (slice_index hart.old.x r))) }
+    ensures retires { retired hart.old.number hart.old.pc hart.old.pc word (λ r. Some (slice_index hart.old.x r))
+        ≡ Some (record { effect = effect_seen result; next = hart.new.pc }) }
+    ensures x { (λ r. slice_index hart.new.x r) ≡ with_write (λ r. slice_index hart.old.x r) result.rd }
+    ensures number { hart.new.number ≡ hart.old.number }
+    ensures zero { slice_index hart.new.x 0 ≡ 0 }
+{
+    let bus = OneWord { at: hart.pc, word };
+    let stepped = step(hart, &bus);
+    StepLine {
+        hart: hart.number,
+        pc: stepped.pc,
+        pa: stepped.pa,
+        word: stepped.word,
+        rd: stepped.rd,
+    }
+}

@@ -1,0 +1,29 @@
+-- What the finished run of the hart says, said of the job.
+use Rattle.std.proofs.Common.{◌≤◌, ap, sym, ◌∙◌, arith, length}
+use Rattle.region_plan.specs.Work.{work_of}
+use Rattle.trace_text.specs.Lines.{effects_of}
+use Rattle.trace_text.specs.Views.{lines_seen}
+use Rattle.hart_task.specs.Task.{log_lines}
+use Rattle.run_merge.specs.Order.{whole_order}
+use Rattle.run_merge.proofs.Merged.{one_run, answers, justified}
+use Rattle.run_merge.proofs.merging.merge.Goals as goal
+
+pub returns-clause-merged : goal.returns-clause-merged
+returns-clause-merged c = record {
+  finished = c.requires.log.run;
+  words = c.requires.log.words;
+  order = c.in_ok-order.ensures ∙ ap (λ ls. whole_order 1 (effects_of (lines_seen ls))) c.as_slice.ensures.value
+      ∙ ap (λ n. whole_order n (effects_of (log_lines c.args.log))) (sym c.requires.rules.one_hart);
+}
+
+pub returns-clause-whole : goal.returns-clause-whole
+returns-clause-whole c = one_run (work_of c.args.job.now) (log_lines c.args.log) c.requires.rules.one_hart c.requires.log.run
+
+pub returns-clause-answers : goal.returns-clause-answers
+returns-clause-answers c = answers (work_of c.args.job.now) (log_lines c.args.log)
+    (one_run (work_of c.args.job.now) (log_lines c.args.log) c.requires.rules.one_hart c.requires.log.run)
+
+pub returns-clause-justified : goal.returns-clause-justified
+returns-clause-justified c =
+    let few : length c.requires.log.run.end.words ≤ 1024 = omega (arith, ap length c.requires.log.words, c.requires.log.room) in
+    justified (work_of c.args.job.now) (log_lines c.args.log) c.requires.rules.one_hart c.requires.log.run (omega (arith, few))

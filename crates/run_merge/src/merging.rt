@@ -1,0 +1,40 @@
+ghost use Rattle.std.specs.Prelude.{◌≡◌, ℕ, List, IfOk};
+ghost use Rattle.choice_tree.specs.Forest.{Forest};
+ghost use Rattle.region_plan.specs.Work.{work_of, hart_count};
+ghost use Rattle.region_plan.specs.Rules.{KeepsRules};
+ghost use Rattle.hart_task.specs.Task.{IsLogOf, log_lines};
+ghost use Rattle.run_merge.specs.Answers.{Answers};
+ghost use Rattle.run_merge.specs.Justified.{Justified};
+ghost use Rattle.run_merge.specs.Run.{run_lines, IsMerged};
+ghost use Rattle.run_merge.specs.Whole.{OneRun};
+
+use crate::order::order_of;
+use crate::run::Run;
+use hart_task::HartLog;
+use region_plan::Job;
+use rv_fields::NoMemory;
+use std::alloc::Global;
+
+/// The run of the one hart whose log this is.
+pub fn merge(alloc: Global, job: &Job, log: HartLog) -> Result<Run, NoMemory>
+    requires rules { KeepsRules (work_of job.now) }
+    requires log { IsLogOf (work_of job.now) 0 log }
+    ensures lines { IfOk result (λ run. run_lines run ≡ log_lines log) }
+    ensures merged { IfOk result (λ run. IsMerged (work_of job.now) run) }
+    // The lines are a run of all harts, to their ends.
+    ensures whole { IfOk result (λ run. OneRun (work_of job.now) (run_lines run)) }
+    // The lines answer the job, whatever the trees and the seed.
+    ensures answers { IfOk result (λ run. (trees : Forest) (seed : ℕ)
+        → Answers (work_of job.now) trees seed (hart_count (work_of job.now)) (run_lines run)) }
+    // Whatever else stands in memory and registers, the hart does what the lines tell.
+    ensures justified { IfOk result (λ run. Justified (work_of job.now) (run_lines run)) }
+{
+    let _ = job;
+    let order = order_of(alloc, log.lines.as_slice())?;
+    let HartLog { lines, words, .. } = log;
+    Ok(Run {
+        lines,
+        order,
+        words,
+    })
+}
