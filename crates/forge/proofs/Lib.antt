@@ -1,0 +1,4 @@
+pub mod Ending
+pub mod Digits
+pub mod Names
+pub mod Generating

@@ -1,0 +1,56 @@
+-- The words of a command line, and the command that they are.
+use Rattle.std.specs.Prelude.{ℕ, ◌*◌, ◌+◌, ◌-◌, ◌^◌, List, [], ◌∷◌, length, codes, Bool, true, false, not, nat_lt, nat_le, ◌==◌, ◌&&◌, Option, Some, None, if◌then◌else◌}
+use Rattle.std.specs.List.{list_all, list_any}
+use Rattle.std.specs.Str.{bytes_eq}
+use Rattle.rv_fields.specs.Attempt.{◌>>=◌}
+
+-- make-serial with its files and its seed
+pub record Command : Type 0 where
+  pub job : List ℕ
+  pub trees : List ℕ
+  pub seed : ℕ
+  pub elf : List ℕ
+  pub order : List ℕ
+  pub trace : List ℕ
+
+-- the word is an option, which no command takes
+abbrev pub is_option : List ℕ → Bool
+is_option [] = false
+is_option (b ∷ bs) = b == 0x2d
+
+-- no two of the words are the same
+abbrev pub are_different : List (List ℕ) → Bool
+are_different [] = true
+are_different (w ∷ ws) = not (list_any (bytes_eq w) ws) && are_different ws
+
+-- the byte is a decimal digit
+abbrev pub is_digit : ℕ → Bool
+is_digit b = nat_le 0x30 b && nat_le b 0x39
+
+-- the number that digits spell, the highest first, behind a number
+abbrev pub value_behind : ℕ → List ℕ → ℕ
+value_behind n [] = n
+value_behind n (b ∷ bs) = value_behind (10 * n + (b - 0x30)) bs
+
+-- a seed: one to twenty decimal digits of a value below 2^64
+abbrev pub seed_of : List ℕ → Option ℕ
+seed_of word =
+    if nat_le 1 (length word) && nat_le (length word) 20 && list_all is_digit word && nat_lt (value_behind 0 word) (2 ^ 64)
+    then Some (value_behind 0 word) else None
+
+-- make-serial JOB TREES SEED ELF ORDER TRACE, without options and with different files
+abbrev pub command_of : List (List ℕ) → Option Command
+command_of (name ∷ job ∷ trees ∷ seed_word ∷ elf ∷ order ∷ trace ∷ []) = do
+  seed ← seed_of seed_word
+  if bytes_eq name (codes "make-serial") && not (list_any is_option (job ∷ trees ∷ elf ∷ order ∷ trace ∷ []))
+      && are_different (job ∷ trees ∷ elf ∷ order ∷ trace ∷ [])
+      then Some (record { job = job; trees = trees; seed = seed; elf = elf; order = order; trace = trace })
+      else None
+command_of [] = None
+command_of (a ∷ []) = None
+command_of (a ∷ b ∷ []) = None
+command_of (a ∷ b ∷ c ∷ []) = None
+command_of (a ∷ b ∷ c ∷ d ∷ []) = None
+command_of (a ∷ b ∷ c ∷ d ∷ e ∷ []) = None
+command_of (a ∷ b ∷ c ∷ d ∷ e ∷ f ∷ []) = None
+command_of (a ∷ b ∷ c ∷ d ∷ e ∷ f ∷ g ∷ h ∷ rest) = None

@@ -1,0 +1,17 @@
+//! The generator as a whole: from a job to its three files, and from a command line to a status.
+#![tactic(auto)]
+
+mod command;
+mod files;
+mod line;
+mod made;
+mod making;
+mod serial;
+mod stop;
+#[cfg(test)]
+mod tests;
+mod top;
+
+pub use made::{Counts, Made};
+pub use making::make_serial;
+pub use top::plain_top;

@@ -1,0 +1,258 @@
+ghost use Rattle.std.specs.Prelude.{◌<◌};
+
+use crate::plain_top;
+use std::alloc::{AllocError, Global};
+use std::process::Abort;
+use std::test::Fail;
+use store_face::MemStore;
+
+const USAGE: &str =
+    "usage: make|make-serial JOB TREES SEED ELF ORDER TRACE; replay ELF ORDER TRACE; big N JOB TREES; check JOB TREES\n";
+
+/// The words of the command that the tests run.
+const WORDS: [&str; 7] = ["make-serial", "j", "t", "7", "e", "o", "r"];
+
+/// A job of one hart with one request.
+const JOB: &[u8] =
+    b"{\"version\":1,\"harts\":[{\"mode\":\"M\",\"code_pages\":1,\"template\":[{\"ins\":\"addi\",\"rd\":1,\"rs1\":0,\"imm\":5}]}]}";
+
+/// A job of one hart with no request.
+const IDLE_JOB: &[u8] =
+    b"{\"version\":1,\"harts\":[{\"mode\":\"M\",\"code_pages\":1,\"template\":[]}]}";
+
+/// A job of two harts.
+const TWO_HARTS: &[u8] =
+    b"{\"version\":1,\"harts\":[{\"mode\":\"M\",\"code_pages\":1,\"template\":[]},{\"mode\":\"M\",\"code_pages\":1,\"template\":[]}]}";
+
+const TREES: &[u8] = b"{\"version\":1,\"trees\":[]}";
+
+/// A store of a job and of trees.
+fn holding(alloc: Global, job: &[u8], trees: &[u8]) -> Result<MemStore, Fail> {
+    let mut store = MemStore::new(alloc);
+    store.write("j", job)?;
+    store.write("t", trees)?;
+    store.calls = 0;
+    Ok(store)
+}
+
+/// The words as the command line gives them.
+fn owned(alloc: Global, words: &[&str]) -> Result<Vec<String>, AllocError> {
+    let mut all = Vec::new(alloc);
+    for word in words {
+        all.push(String::from_str(alloc, *word)?)?;
+    }
+    Ok(all)
+}
+
+/// Runs the words over the store, and asserts what they end with.
+fn assert_ends(
+    rt: &impl Abort,
+    alloc: Global,
+    words: &[&str],
+    store: &mut MemStore,
+    status: u8,
+    line: &str,
+) -> Result<(), Fail> {
+    let words = owned(alloc, words)?;
+    let mut out = b"left over".to_vec(alloc)?;
+    let ended = plain_top(alloc, &words, store, &mut out);
+    assert_eq!(rt; ended, status, "{line}");
+    assert!(rt; out.as_slice() == line.as_bytes(), "{line}");
+    Ok(())
+}
+
+/// Whether the file has the bytes at the offset.
+fn has(file: &[u8], offset: usize, bytes: &[u8]) -> bool {
+    file.get(offset..)
+        .is_some_and(|rest| rest.starts_with(bytes))
+}
+
+/// Where the ELF's program header of the number tells its offset in the file, and then its size there.
+fn header_at(number: usize) -> (usize, usize)
+    requires { number < 3 }
+{
+    let header = 64 + 56 * number;
+    (header + 8, header + 32)
+}
+
+#[test]
+fn one_request_is_made(rt: HostRuntime) -> Result<(), Fail> {
+    let mut store = holding(rt.alloc(), JOB, TREES)?;
+    assert_ends(
+        &rt,
+        rt.alloc(),
+        &WORDS,
+        &mut store,
+        0,
+        "harts 1 steps 2 done 1 refused 0\n",
+    )?;
+    assert!(rt; store.files.get("o").ok_or("no order")? == b"order 1 1\n0 72\n".as_slice());
+    let trace =
+        b"trace 1 1\nq 0 0 ins\ns 0 84000000 84000000 00500093 1:5 - - -\nd 0 0\ne 0 84000004 84000004 0000006f - - - -\n";
+    assert!(rt; store.files.get("r").ok_or("no trace")? == trace.as_slice());
+    Ok(())
+}
+
+#[test]
+fn the_elf_has_three_segments(rt: HostRuntime) -> Result<(), Fail> {
+    let mut store = holding(rt.alloc(), JOB, TREES)?;
+    assert_ends(
+        &rt,
+        rt.alloc(),
+        &WORDS,
+        &mut store,
+        0,
+        "harts 1 steps 2 done 1 refused 0\n",
+    )?;
+    let elf = store.files.get("e").ok_or("no ELF")?;
+    assert_eq!(rt; elf.len(), 20_485);
+    assert!(rt; has(elf, 0x5000, &[0x93, 0x00, 0x50, 0x00, 0x6f]));
+    let segments = [(0x1000u64, 0x1471u64), (0x3000, 0x1018), (0x5000, 5)];
+    for number in 0..3 {
+        let (offset, size) = segments[number];
+        let (offset_at, size_at) = header_at(number);
+        assert!(rt;
+            has(elf, offset_at, &offset.to_le_bytes()),
+            "offset {number}"
+        );
+        assert!(rt; has(elf, size_at, &size.to_le_bytes()), "size {number}");
+    }
+    Ok(())
+}
+
+#[test]
+fn an_empty_template_has_one_step(rt: HostRuntime) -> Result<(), Fail> {
+    let mut store = holding(rt.alloc(), IDLE_JOB, TREES)?;
+    assert_ends(
+        &rt,
+        rt.alloc(),
+        &WORDS,
+        &mut store,
+        0,
+        "harts 1 steps 1 done 0 refused 0\n",
+    )?;
+    assert!(rt; store.files.get("o").ok_or("no order")? == b"order 1 1\n0 71\n".as_slice());
+    let trace = b"trace 1 1\ne 0 84000000 84000000 0000006f - - - -\n";
+    assert!(rt; store.files.get("r").ok_or("no trace")? == trace.as_slice());
+    Ok(())
+}
+
+#[test]
+fn a_seed_may_have_leading_zeros_and_twenty_digits(rt: HostRuntime) -> Result<(), Fail> {
+    for seed in ["007", "18446744073709551615", "00000000000000000000"] {
+        let mut store = holding(rt.alloc(), JOB, TREES)?;
+        let words = ["make-serial", "j", "t", seed, "e", "o", "r"];
+        assert_ends(
+            &rt,
+            rt.alloc(),
+            &words,
+            &mut store,
+            0,
+            "harts 1 steps 2 done 1 refused 0\n",
+        )?;
+    }
+    Ok(())
+}
+
+#[test]
+fn what_is_not_built_is_refused(rt: HostRuntime) -> Result<(), Fail> {
+    let mut two_harts = holding(rt.alloc(), TWO_HARTS, TREES)?;
+    assert_ends(
+        &rt,
+        rt.alloc(),
+        &WORDS,
+        &mut two_harts,
+        6,
+        "j: not built yet\n",
+    )?;
+    let mut trees = holding(rt.alloc(), JOB, b"{\"version\":1,\"trees\":[1]}")?;
+    assert_ends(&rt, rt.alloc(), &WORDS, &mut trees, 6, "t: not built yet\n")?;
+    let mut both = holding(rt.alloc(), TWO_HARTS, b"[]")?;
+    assert_ends(&rt, rt.alloc(), &WORDS, &mut both, 6, "j: not built yet\n")
+}
+
+#[test]
+fn a_file_that_is_too_long_is_refused(rt: HostRuntime) -> Result<(), Fail> {
+    let long = vec![in rt.alloc(); b' '; 4_194_305]?;
+    let mut long_job = holding(rt.alloc(), &long, TREES)?;
+    assert_ends(
+        &rt,
+        rt.alloc(),
+        &WORDS,
+        &mut long_job,
+        6,
+        "j: not built yet\n",
+    )?;
+    // Lengths come before forms.
+    let mut long_trees = holding(rt.alloc(), TWO_HARTS, &long)?;
+    assert_ends(
+        &rt,
+        rt.alloc(),
+        &WORDS,
+        &mut long_trees,
+        6,
+        "t: not built yet\n",
+    )
+}
+
+#[test]
+fn other_words_are_no_command(rt: HostRuntime) -> Result<(), Fail> {
+    let lines: [&[&str]; 12] = [
+        &[],
+        &["make"],
+        &["make-serial"],
+        &["make", "j", "t", "7", "e", "o", "r"],
+        &["make-serial", "j", "t", "7", "e", "o", "r", "s"],
+        &[
+            "make-serial",
+            "j",
+            "t",
+            "18446744073709551616",
+            "e",
+            "o",
+            "r",
+        ],
+        &[
+            "make-serial",
+            "j",
+            "t",
+            "000000000000000000007",
+            "e",
+            "o",
+            "r",
+        ],
+        &["make-serial", "j", "t", "", "e", "o", "r"],
+        &["make-serial", "j", "t", "-1", "e", "o", "r"],
+        &["make-serial", "j", "t", "7", "e", "o", "e"],
+        &["make-serial", "j", "j", "7", "e", "o", "r"],
+        &["make-serial", "j", "t", "7", "e", "-x", "r"],
+    ];
+    for words in lines {
+        let mut store = holding(rt.alloc(), JOB, TREES)?;
+        assert_ends(&rt, rt.alloc(), words, &mut store, 3, USAGE)?;
+        assert_eq!(rt; store.calls, 0);
+    }
+    Ok(())
+}
+
+#[test]
+fn a_file_that_cannot_be_read_is_named(rt: HostRuntime) -> Result<(), Fail> {
+    let mut empty = MemStore::new(rt.alloc());
+    assert_ends(&rt, rt.alloc(), &WORDS, &mut empty, 4, "cannot read j\n")?;
+    let mut first = holding(rt.alloc(), JOB, TREES)?;
+    first.failing = [0].to_vec(rt.alloc())?;
+    assert_ends(&rt, rt.alloc(), &WORDS, &mut first, 4, "cannot read j\n")?;
+    let mut second = holding(rt.alloc(), JOB, TREES)?;
+    second.failing = [1].to_vec(rt.alloc())?;
+    assert_ends(&rt, rt.alloc(), &WORDS, &mut second, 4, "cannot read t\n")
+}
+
+#[test]
+fn a_file_that_cannot_be_written_is_named(rt: HostRuntime) -> Result<(), Fail> {
+    let mut store = holding(rt.alloc(), JOB, TREES)?;
+    store.failing = [3].to_vec(rt.alloc())?;
+    assert_ends(&rt, rt.alloc(), &WORDS, &mut store, 5, "cannot write o\n")?;
+    assert!(rt; store.files.get("e").is_some());
+    assert!(rt; store.files.get("r").is_none());
+    Ok(())
+}

@@ -1,0 +1,54 @@
+ghost use Rattle.std.specs.Prelude.{◌≡◌, ◌⊎◌, [], map, string_bytes};
+ghost use Rattle.forge.specs.Ends.{Ends};
+ghost use Rattle.forge.specs.Stops.{status_of, stop_text, EndsBy};
+
+use crate::command::MakeSerial;
+use crate::line::write_line;
+use crate::stop::Stop;
+use std::alloc::Global;
+use store_face::Store;
+
+/// Does what the words of the command line say, over the store: all commands that wait for nobody. `out` is emptied
+/// first, and receives the line to print, with its newline. The result is the exit status:
+///
+/// | status | meaning |
+/// |---|---|
+/// | 0 | the three files are written |
+/// | 3 | the words are no command's |
+/// | 4 | a file can't be read |
+/// | 5 | a file can't be written |
+/// | 6 | an input file isn't accepted |
+/// | 8 | want of memory; nothing is printed |
+pub fn plain_top<S: Store>(alloc: Global, words: &[String], store: &mut S, out: &mut Vec<u8>) -> u8
+    ensures { Ends (map string_bytes words.now) (S.state store.old) (S.state store.new) result out.new.items }
+{
+    match run(alloc, words, store, out) {
+        Ok(()) => 0,
+        Err(stop) => tell(alloc, stop, out),
+    }
+}
+
+/// Runs the command that the words are.
+fn run<'a, S: Store>(
+    alloc: Global,
+    words: &'a [String],
+    store: &mut S,
+    out: &mut Vec<u8>,
+) -> Result<(), Stop<'a>>
+    ensures { EndsBy (map string_bytes words.entry.now) (S.state store.old) (S.state store.new) result out.new.items }
+{
+    let command = MakeSerial::parse(words).ok_or(Stop::Usage)?;
+    command.run(alloc, store, out)
+}
+
+/// Tells of the stop in `out`, in place of what it holds: the exit status, which is that of want of memory where there
+/// is none for the line.
+fn tell(alloc: Global, stop: Stop, out: &mut Vec<u8>) -> u8
+    ensures { ((result ≡ status_of stop.entry) × (out.new.items ≡ stop_text stop.entry)) ⊎ ((result ≡ 8) × (out.new.items ≡ [])) }
+{
+    if stop == Stop::Memory || write_line(alloc, stop, out).is_err() {
+        out.clear();
+        return Stop::Memory.status();
+    }
+    stop.status()
+}
