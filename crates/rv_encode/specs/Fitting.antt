@@ -1,7 +1,7 @@
 -- What an instruction word can hold of the operands that it is given.
-use Rattle.std.specs.Prelude.{ℤ, pos, List, [], ◌∷◌, Bool, not, ◌==◌, nat_lt, Option, option_map, find}
+use Rattle.std.specs.Prelude.{ℤ, pos, negsuc, false, List, [], ◌∷◌, Bool, not, ◌==◌, nat_lt, Option, option_map, find}
 use Rattle.rv_fields.specs.declared.row_table.Form.{Form}
-use Rattle.rv_fields.specs.declared.row_table.Form.TheVariants.{J, I}
+use Rattle.rv_fields.specs.declared.row_table.Form.TheVariants.{J, I, R}
 use Rattle.rv_fields.specs.declared.row_table.Ops.{Ops}
 use Rattle.rv_fields.specs.Immediate.{fits_i, fits_j}
 use Rattle.rv_encode.specs.declared.field.Field.{Field}
@@ -20,6 +20,11 @@ value_in ops Rs2 = pos ops.rs2
 value_in ops Imm = ops.imm
 value_in ops AqRl = pos ops.aqrl
 
+-- the immediate of a form that has none
+abbrev pub is_zero : ℤ → Bool
+is_zero (pos n) = n == 0
+is_zero (negsuc n) = false
+
 -- The form holds what the operands have for the field: a register below 32, an immediate that fits, and 0
 -- in a field that the form lacks.
 abbrev pub fits : Form → Ops → Field → Bool
@@ -33,6 +38,11 @@ fits I ops Rs1 = nat_lt ops.rs1 32
 fits I ops Rs2 = ops.rs2 == 0
 fits I ops Imm = fits_i ops.imm
 fits I ops AqRl = ops.aqrl == 0
+fits R ops Rd = nat_lt ops.rd 32
+fits R ops Rs1 = nat_lt ops.rs1 32
+fits R ops Rs2 = nat_lt ops.rs2 32
+fits R ops Imm = is_zero ops.imm
+fits R ops AqRl = ops.aqrl == 0
 
 -- the first field that the form can't hold, with its value
 abbrev pub misfit : Form → Ops → Option OutOfField

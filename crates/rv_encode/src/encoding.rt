@@ -39,5 +39,6 @@ fn packed(form: Form, value: u32, ops: &Ops) -> u32
     match form {
         Form::J => put_imm_j(value + rd, ops.imm),
         Form::I => put_imm_i(value + rd + rs1, ops.imm),
+        Form::R => value + rd + rs1 + (u32::from(ops.rs2) << 20),
     }
 }

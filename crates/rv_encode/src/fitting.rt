@@ -37,10 +37,12 @@ fn fits(form: Form, ops: &Ops, field: Field) -> bool
     match (form, field) {
         (_, Field::Rd) => ops.rd < 32,
         (Form::J, Field::Rs1) => ops.rs1 == 0,
-        (Form::I, Field::Rs1) => ops.rs1 < 32,
-        (_, Field::Rs2) => ops.rs2 == 0,
+        (Form::I | Form::R, Field::Rs1) => ops.rs1 < 32,
+        (Form::J | Form::I, Field::Rs2) => ops.rs2 == 0,
+        (Form::R, Field::Rs2) => ops.rs2 < 32,
         (Form::J, Field::Imm) => fits_j(ops.imm),
         (Form::I, Field::Imm) => fits_i(ops.imm),
+        (Form::R, Field::Imm) => ops.imm == 0,
         (_, Field::AqRl) => ops.aqrl == 0,
     }
 }

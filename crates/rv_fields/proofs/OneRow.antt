@@ -5,7 +5,7 @@ use Rattle.std.specs.List.{list_all, slice_get}
 use Rattle.std.proofs.lemmas.Bool.{and_parts, eqb-true, not-true, cases_Bool, both_ways, cond-false}
 use Rattle.std.proofs.lemmas.Nat.{and_assoc, and_comm}
 use Rattle.rv_fields.specs.declared.row_table.Ins.{Ins}
-use Rattle.rv_fields.specs.declared.row_table.Ins.TheVariants.{Jal, Addi}
+use Rattle.rv_fields.specs.declared.row_table.Ins.TheVariants.{Jal, Addi, Add}
 use Rattle.rv_fields.specs.RowTable.{all_ins, form_of, mask_of, value_of, Agrees}
 use Rattle.rv_fields.specs.Decode.{agrees, ins_at}
 
@@ -24,6 +24,7 @@ table_apart = refl
 listed : (i : Ins) → (n : ℕ) × (slice_get all_ins n ≡ Some i)
 listed Jal = (0, refl)
 listed Addi = (1, refl)
+listed Add = (2, refl)
 
 -- a word under two masks
 masked_twice : (word m n v w : ℕ) → bit_and word m ≡ v → bit_and word n ≡ w → bit_and v n ≡ bit_and w m

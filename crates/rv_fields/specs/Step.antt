@@ -1,7 +1,7 @@
 -- One step of a hart by the tables of the RISC-V manuals.
 use Rattle.std.specs.Prelude.{ℕ, zero, suc, ◌+◌, ◌%◌, ◌^◌, pos, ◌+ℤ◌, ◌==◌, Option, Some, None, if◌then◌else◌}
 use Rattle.rv_fields.specs.declared.row_table.Ins.{Ins}
-use Rattle.rv_fields.specs.declared.row_table.Ins.TheVariants.{Jal, Addi}
+use Rattle.rv_fields.specs.declared.row_table.Ins.TheVariants.{Jal, Addi, Add}
 use Rattle.rv_fields.specs.declared.row_table.Ops.{Ops}
 use Rattle.rv_fields.specs.Attempt.{◌>>=◌}
 use Rattle.rv_fields.specs.Immediate.{wrapped}
@@ -40,6 +40,7 @@ jump value target = if target % 4 == 0 then Some (record { value = value; next =
 abbrev pub outcome : Ins → Ops → ℕ → ℕ → ℕ → Option Outcome
 outcome Jal ops pc a b = jump (behind pc) (wrapped (pos pc +ℤ ops.imm))
 outcome Addi ops pc a b = Some (record { value = wrapped (pos a +ℤ ops.imm); next = behind pc })
+outcome Add ops pc a b = Some (record { value = (a + b) % 2 ^ 64; next = behind pc })
 
 -- the register that is written, and its value; x0 never is
 abbrev pub write_of : ℕ → ℕ → Option (ℕ × ℕ)

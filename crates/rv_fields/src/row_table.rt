@@ -5,6 +5,7 @@
 pub enum Ins {
     Jal,
     Addi,
+    Add,
 }
 
 /// Where the operands of an instruction stand in its word.
@@ -14,6 +15,8 @@ pub enum Form {
     J,
     /// rd, rs1 and an immediate of 12 bits.
     I,
+    /// rd, rs1 and rs2.
+    R,
 }
 
 /// The operands of an instruction; those that its form lacks are 0.

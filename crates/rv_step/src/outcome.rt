@@ -26,11 +26,15 @@ pub struct Outcome {
 pub fn outcome_of(ins: Ins, ops: &Ops, inputs: Inputs) -> Option<Outcome>
     ensures { option_map outcome_seen result ≡ outcome ins ops.now inputs.pc inputs.rs1 inputs.rs2 }
 {
-    let Inputs { pc, rs1, .. } = inputs;
+    let Inputs { pc, rs1, rs2 } = inputs;
     match ins {
         Ins::Jal => jump(behind(pc), moved(pc, ops.imm)),
         Ins::Addi => Some(Outcome {
             value: moved(rs1, ops.imm),
+            next: behind(pc),
+        }),
+        Ins::Add => Some(Outcome {
+            value: rs1.wrapping_add(rs2),
             next: behind(pc),
         }),
     }

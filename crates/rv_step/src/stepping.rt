@@ -22,6 +22,7 @@ pub fn step<B: Bus>(hart: &mut Hart, bus: &B) -> Stepped
     requires told { IsSome (step (B.seen bus.now) (hart_seen hart.old)) }
     ensures step { step (B.seen bus.now) (hart_seen hart.old)
         ≡ Some (record { effect = effect_seen hart.old.number result; hart = hart_seen hart.new }) }
+    ensures register { IfSome result.rd (λ w. (0 < w.0) × (w.0 < 32)) }
     ensures zero { slice_index hart.new.x 0 ≡ 0 }
 {
     let Some(word) = bus.fetch(hart.pc) else {

@@ -44,6 +44,21 @@ fn addi_writes_its_register(rt: HostRuntime) {
 
 #[test]
 #[tactic(auto, unfolding(rv_fields::specs::Step::step, rv_fields::specs::Step::retired))]
+fn add_wraps_around(rt: HostRuntime) {
+    let bus = Placed {
+        at: 0x8400_0000,
+        word: 0x0020_81b3,
+    };
+    let mut hart = START;
+    hart.x[1] = u64::MAX;
+    hart.x[2] = 3;
+    let stepped = step(&mut hart, &bus);
+    assert_eq!(rt; stepped.rd, Some((3, 2)));
+    assert_eq!(rt; hart.pc, 0x8400_0004);
+}
+
+#[test]
+#[tactic(auto, unfolding(rv_fields::specs::Step::step, rv_fields::specs::Step::retired))]
 fn a_jump_to_itself_stays(rt: HostRuntime) {
     let bus = Placed {
         at: 0x8400_0004,

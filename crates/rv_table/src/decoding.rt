@@ -1,13 +1,13 @@
 ghost use Rattle.std.specs.Prelude.{◌≡◌, ◌↔◌, ◌<◌, Some, IfSome, option_map, find};
 ghost use Rattle.rv_fields.specs.declared.row_table.Ins.{Ins};
 ghost use Rattle.rv_fields.specs.RowTable.{Agrees};
-ghost use Rattle.rv_fields.specs.Decode.{Decoded, decoded, ins_at, agrees, fields_of, rd_of, rs1_of};
+ghost use Rattle.rv_fields.specs.Decode.{Decoded, decoded, ins_at, agrees, fields_of, rd_of, rs1_of, rs2_of};
 
 use crate::rows::row;
 use rv_fields::{Form, Ins, Ops, bits_of, imm_i, imm_j};
 
 /// The instructions in the table's order.
-const TABLE: [Ins; 2] = [Ins::Jal, Ins::Addi];
+const TABLE: [Ins; 3] = [Ins::Jal, Ins::Addi, Ins::Add];
 
 /// The instruction and the operands that the word spells.
 pub fn decode(word: u32) -> Option<(Ins, Ops)>
@@ -65,6 +65,12 @@ fn operands(form: Form, word: u32) -> Ops
             imm: imm_i(word),
             ..none
         },
+        Form::R => Ops {
+            rd: rd(word),
+            rs1: rs1(word),
+            rs2: rs2(word),
+            ..none
+        },
     }
 }
 
@@ -78,4 +84,10 @@ fn rs1(word: u32) -> u8
     ensures { result ≡ rs1_of word }
 {
     bits_of(word, 15, 5) as u8
+}
+
+fn rs2(word: u32) -> u8
+    ensures { result ≡ rs2_of word }
+{
+    bits_of(word, 20, 5) as u8
 }

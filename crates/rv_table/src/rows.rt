@@ -14,6 +14,7 @@ pub fn row(ins: Ins) -> Row
     match ins {
         Ins::Jal => row_of(Form::J, "jal", 0x6f),
         Ins::Addi => row_of(Form::I, "addi", 0x13),
+        Ins::Add => row_of(Form::R, "add", 0x33),
     }
 }
 
@@ -38,5 +39,6 @@ fn mask(form: Form) -> u32
     match form {
         Form::J => 0x7f,
         Form::I => 0x707f,
+        Form::R => 0xfe00_707f,
     }
 }
