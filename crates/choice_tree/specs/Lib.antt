@@ -1,3 +1,4 @@
 pub mod Json
 pub mod Forest
 pub mod Input
+pub mod Draws

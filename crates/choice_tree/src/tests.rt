@@ -55,3 +55,41 @@ fn says_why(rt: HostRuntime) -> Result<(), Fail> {
     assert_eq!(rt; memory.as_str(), "out of memory");
     Ok(())
 }
+
+/// The first words of the stream, by the reference code of the generator.
+const REFERENCE: [u64; 6] = [
+    0x86b1_da1d_7206_2b68,
+    0x1304_aa46_c985_3d39,
+    0xa367_0e9e_0dd5_0358,
+    0xf909_0e52_9a7d_ae00,
+    0xc85b_9fd8_3799_6f2c,
+    0x6061_21f8_e391_9196,
+];
+
+/// The first words of another stream, by a program that was written after the generator's paper.
+const APART: [u64; 6] = [
+    0xa282_1ea3_ecb6_3cd4,
+    0x0161_e432_3234_90d8,
+    0x02f7_6a2a_1487_4273,
+    0xf1ad_dd77_bc42_c01d,
+    0x218b_879e_ffd2_c27a,
+    0xe16b_d4d8_51af_a2a0,
+];
+
+#[test]
+fn draws_the_words_of_the_reference_code(rt: HostRuntime) {
+    let mut words = DrawWords::new(42, 54);
+    for word in REFERENCE {
+        assert_eq!(rt; words.next(), word);
+    }
+    assert_eq!(rt; words.drawn(), 6);
+}
+
+#[test]
+fn draws_the_words_of_another_seed_and_stream(rt: HostRuntime) {
+    let mut words = DrawWords::new(7, 3);
+    assert_eq!(rt; words.drawn(), 0);
+    for word in APART {
+        assert_eq!(rt; words.next(), word);
+    }
+}
