@@ -1,6 +1,6 @@
 -- The words that harts run before and beside their templates, and the values that they start with.
-use Rattle.std.specs.Prelude.{ℕ, ◌+◌, ◌*◌, ◌^◌, List, [], ◌∷◌, ◌++◌, replicate, map}
-use Rattle.std.specs.List.{flat_map, enumerate_from}
+use Rattle.std.specs.Prelude.{ℕ, ◌+◌, ◌*◌, ◌^◌, List, [], ◌∷◌, ◌++◌, replicate, map, Option, unwrap_or}
+use Rattle.std.specs.List.{flat_map, enumerate_from, range_with_len}
 use Rattle.rv_fields.specs.declared.mode.Mode.{Mode}
 use Rattle.rv_fields.specs.declared.mode.Mode.TheVariants.{U, S, M}
 use Rattle.boot_words.specs.Layout.{code_start, m_handler_at}
@@ -59,6 +59,6 @@ abbrev pub boot_csrs : ℕ → List ℕ
 boot_csrs hart = 0x1800 ∷ 0 ∷ 0 ∷ 0 ∷ m_handler_at ∷ 0 ∷ code_start hart
     ∷ 0x3ffffff000 ∷ 0 ∷ 0 ∷ 0 ∷ 0 ∷ 0 ∷ 0x3fffffffffffff ∷ 0x1f ∷ []
 
--- what boot writes to x1 to x31
-abbrev pub boot_registers : List ℕ
-boot_registers = replicate 31 0
+-- what boot writes to x1 to x31: the starting values that are given, and 0 to the others
+abbrev pub boot_registers : (ℕ → Option ℕ) → List ℕ
+boot_registers initial = map (λ r. unwrap_or (initial r) 0) (range_with_len 1 31)

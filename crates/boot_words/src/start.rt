@@ -1,7 +1,9 @@
 ghost use Rattle.std.specs.Prelude.{◌≡◌};
 ghost use Rattle.boot_words.specs.Boot.{boot_csrs, boot_registers};
+ghost use Rattle.value_file.specs.Values.{initial_of};
 
 use crate::layout::{M_HANDLER_AT, code_start};
+use value_file::ValueFile;
 
 /// mstatus with M in its field MPP, so that mret goes on in mode M.
 const MPP_IS_M: u64 = 0x1800;
@@ -22,10 +24,10 @@ pub struct BootValues {
     pub x: [u64; 31],
 }
 
-/// The values that a hart starts with.
-pub fn boot_values(hart: u8) -> BootValues
+/// The values that a hart starts with, where these starting values of its registers are fixed.
+pub fn boot_values(hart: u8, values: &ValueFile) -> BootValues
     ensures csrs { result.csrs ≡ boot_csrs hart }
-    ensures registers { result.x ≡ boot_registers }
+    ensures registers { result.x ≡ boot_registers (initial_of values.now) }
 {
     BootValues {
         csrs: [
@@ -45,6 +47,17 @@ pub fn boot_values(hart: u8) -> BootValues
             ALL_MEMORY, // pmpaddr0
             OPEN_TO_ALL, // pmpcfg0
         ],
-        x: [0; 31],
+        x: registers(values),
     }
+}
+
+/// The starting values of x1 to x31.
+fn registers(values: &ValueFile) -> [u64; 31]
+    ensures { result ≡ boot_registers (initial_of values.now) }
+{
+    let mut x = [0; 31];
+    for place in 0..31 {
+        x[place] = values.initial(place as u8 + 1);
+    }
+    x
 }

@@ -3,6 +3,7 @@ use crate::{
     dispatcher, handler,
 };
 use rv_fields::Mode;
+use value_file::ValueFile;
 
 #[test]
 fn the_dispatcher_of_one_hart(rt: HostRuntime) {
@@ -55,7 +56,12 @@ fn the_handlers(rt: HostRuntime) {
 
 #[test]
 fn the_values_of_hart_0(rt: HostRuntime) {
-    let values = boot_values(0);
+    let mut registers = ValueFile::new();
+    registers.fix(1, 7);
+    registers.write(1, 8);
+    registers.write(2, 9);
+    registers.fix(31, u64::MAX);
+    let values = boot_values(0, &registers);
     let csrs = [
         0x1800,
         0,
@@ -74,12 +80,15 @@ fn the_values_of_hart_0(rt: HostRuntime) {
         0x1f,
     ];
     assert_eq!(rt; values.csrs, csrs);
-    assert_eq!(rt; values.x, [0; 31]);
+    let mut x = [0; 31];
+    x[0] = 7;
+    x[30] = u64::MAX;
+    assert_eq!(rt; values.x, x);
 }
 
 #[test]
 fn hart_1_starts_in_its_own_window(rt: HostRuntime) {
-    assert_eq!(rt; boot_values(1).csrs[6], 0x8410_0000);
+    assert_eq!(rt; boot_values(1, &ValueFile::new()).csrs[6], 0x8410_0000);
     assert_eq!(rt; code_start(1), 0x8410_0000);
 }
 

@@ -7,19 +7,19 @@ use Rattle.elf_file.specs.Loading.{load}
 use Rattle.forge.specs.declared.made.Counts.{Counts}
 use Rattle.choice_tree.specs.Forest.{Forest}
 use Rattle.region_plan.specs.Work.{Work, hart_count}
-use Rattle.trace_text.specs.Lines.{Line, request, made, ending, done, effects_of}
+use Rattle.trace_text.specs.Lines.{Line, request, fixed, made, ending, done, effects_of}
 use Rattle.trace_text.specs.Text.{turns_of, trace_text, order_text}
-use Rattle.boot_words.specs.Startup.{IsStart}
+use Rattle.boot_words.specs.Startup.{IsBooted}
 use Rattle.run_merge.specs.Image.{image}
 use Rattle.run_merge.specs.Answers.{Answers}
-use Rattle.run_merge.specs.Justified.{order_of}
+use Rattle.run_merge.specs.Justified.{order_of, Justified}
 use Rattle.run_merge.specs.Order.{whole_order, boot_steps}
 
--- The machine that the file is loaded into: each byte is the file's, and each hart of the job stands at its start,
--- whatever its registers other than x0 hold.
+-- The machine that the file is loaded into: each byte is the file's, and each hart of the job stands at its start, with
+-- the registers that its table there has.
 pub record IsLoaded (work : Work) (elf : List ℕ) (machine : Machine) : Type 0 where
   pub memory : (a : ℕ) → load elf a ≡ Some (machine.memory a)
-  pub harts : (h : ℕ) → h < hart_count work → IsStart h (machine.harts h)
+  pub harts : (h : ℕ) → h < hart_count work → IsBooted machine.memory h (machine.harts h)
 
 -- The files are those of a run that the lines tell.
 pub record IsRunOf (work : Work) (trees : Forest) (seed : ℕ) (elf order trace : List ℕ) (lines : List Line) : Type 0 where
@@ -34,18 +34,22 @@ pub record IsRunOf (work : Work) (trees : Forest) (seed : ℕ) (elf order trace 
   pub loads : (a : ℕ) → load elf a ≡ Some (image work lines a)
   -- stepped from there, the harts do exactly what the step lines tell, in as many steps
   pub plays : (machine : Machine) → IsLoaded work elf machine → Plays machine (order_of (effects_of lines)) (effects_of lines)
+  -- late fixing is harmless: whatever else stood in memory and registers, they would do the same
+  pub justified : Justified work lines
   -- the lines answer the job
   pub answers : Answers work trees seed (hart_count work) lines
 
 -- the tests that a line is that of a step, and that a request is done
 abbrev pub is_step : Line → Bool
 is_step (request h k kind) = false
+is_step (fixed h register value) = false
 is_step (made e) = true
 is_step (ending e) = true
 is_step (done h k) = false
 
 abbrev pub is_done : Line → Bool
 is_done (request h k kind) = false
+is_done (fixed h register value) = false
 is_done (made e) = false
 is_done (ending e) = false
 is_done (done h k) = true

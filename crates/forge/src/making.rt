@@ -19,8 +19,8 @@ use trace_text::{Line, write_order, write_trace};
 /// The number of harts that a job has.
 const HARTS: u8 = 1;
 
-/// Runs the job under the serial schedule, and makes its three files. No request names a tree yet and no value is
-/// drawn, so the trees and the seed have no say.
+/// Runs the job under the serial schedule, and makes its three files. No request names a tree yet, so the trees have
+/// no say.
 pub fn make_serial(alloc: Global, job: &Job, trees: &Trees, seed: u64) -> Result<Made, NoMemory>
     requires rules { KeepsRules (work_of job.now) }
     ensures run { IfOk result (λ made. (lines : List told.Line)
@@ -28,8 +28,7 @@ pub fn make_serial(alloc: Global, job: &Job, trees: &Trees, seed: u64) -> Result
         × IsCountOf made.counts (hart_count (work_of job.now)) lines) }
 {
     let _ = trees;
-    let _ = seed;
-    let log = run_alone(alloc, job)?;
+    let log = run_alone(alloc, job, seed)?;
     let run = merge(alloc, job, log)?;
     let segments = run.segments(alloc)?;
     let mut elf = Vec::new(alloc);
@@ -48,11 +47,11 @@ pub fn make_serial(alloc: Global, job: &Job, trees: &Trees, seed: u64) -> Result
 }
 
 /// Runs the one hart to its end.
-fn run_alone(alloc: Global, job: &Job) -> Result<HartLog, NoMemory>
+fn run_alone(alloc: Global, job: &Job, seed: u64) -> Result<HartLog, NoMemory>
     requires rules { KeepsRules (work_of job.now) }
-    ensures { IfOk result (λ log. IsLogOf (work_of job.now) 0 log) }
+    ensures { IfOk result (λ log. IsLogOf (work_of job.now) seed 0 log) }
 {
-    let mut task = HartTask::new(alloc, 0);
+    let mut task = HartTask::new(alloc, 0, seed);
     'turns: while let Turned::Event { .. } = task.turn(job)? {}
     Ok(task.into_log())
 }

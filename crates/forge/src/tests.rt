@@ -16,6 +16,10 @@ const WORDS: [&str; 7] = ["make-serial", "j", "t", "7", "e", "o", "r"];
 const JOB: &[u8] =
     b"{\"version\":1,\"harts\":[{\"mode\":\"M\",\"code_pages\":1,\"template\":[{\"ins\":\"addi\",\"rd\":1,\"rs1\":0,\"imm\":5}]}]}";
 
+/// A job of one hart whose request reads two registers that nothing touched before.
+const SUM_JOB: &[u8] =
+    b"{\"version\":1,\"harts\":[{\"mode\":\"M\",\"code_pages\":1,\"template\":[{\"ins\":\"add\",\"rd\":3,\"rs1\":1,\"rs2\":2}]}]}";
+
 /// A job of one hart with no request.
 const IDLE_JOB: &[u8] =
     b"{\"version\":1,\"harts\":[{\"mode\":\"M\",\"code_pages\":1,\"template\":[]}]}";
@@ -134,6 +138,29 @@ fn an_empty_template_has_one_step(rt: HostRuntime) -> Result<(), Fail> {
     assert!(rt; store.files.get("o").ok_or("no order")? == b"order 1 1\n0 71\n".as_slice());
     let trace = b"trace 1 1\ne 0 84000000 84000000 0000006f - - - -\n";
     assert!(rt; store.files.get("r").ok_or("no trace")? == trace.as_slice());
+    Ok(())
+}
+
+/// The first two words of stream 1 of seed 7 are as another implementation of the generator gives them.
+#[test]
+fn untouched_sources_start_with_drawn_values(rt: HostRuntime) -> Result<(), Fail> {
+    let mut store = holding(rt.alloc(), SUM_JOB, TREES)?;
+    assert_ends(
+        &rt,
+        rt.alloc(),
+        &WORDS,
+        &mut store,
+        0,
+        "harts 1 steps 2 done 1 refused 0\n",
+    )?;
+    let trace =
+        b"trace 1 1\nq 0 0 ins\nx 0 1 e0bc229a2c4fd98a\nx 0 2 883be818776e53b8\ns 0 84000000 84000000 002081b3 3:68f80ab2a3be2d42 - - -\nd 0 0\ne 0 84000004 84000004 0000006f - - - -\n";
+    assert!(rt; store.files.get("r").ok_or("no trace")? == trace.as_slice());
+    let elf = store.files.get("e").ok_or("no ELF")?;
+    // What is loaded at 80001478 and at 80001480 stands in the first segment, whose file bytes begin at 1000.
+    assert!(rt; has(elf, 0x2478, &0xe0bc_229a_2c4f_d98a_u64.to_le_bytes()));
+    assert!(rt; has(elf, 0x2480, &0x883b_e818_776e_53b8_u64.to_le_bytes()));
+    assert!(rt; has(elf, 0x2488, &[0; 224]));
     Ok(())
 }
 

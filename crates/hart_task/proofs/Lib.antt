@@ -1,3 +1,4 @@
 pub mod Standing
 pub mod Retiring
 pub mod Making
+pub mod Spelling

@@ -1,22 +1,19 @@
 -- A step of a word that memory tells.
-use Rattle.std.proofs.Common.{ℕ, ◌+◌, ◌-◌, ◌&&◌, Bool, leb, ltb, get_or, rules, ◌%◌, ◌^◌, ◌<◌, ◌≡◌, true, false, cond, eqb, eq-eqb, Option, Some, None, refl, sym, ap, subst, ◌∙◌, arith}
+use Rattle.std.proofs.Common.{ℕ, ◌+◌, ◌-◌, ◌&&◌, Bool, leb, ltb, get_or, rules, ◌%◌, ◌^◌, ◌<◌, ◌≡◌, true, false, cond, eqb, eq-eqb, Option, Some, None, inl, inr, refl, sym, ap, subst, ◌∙◌, arith}
 use Rattle.std.specs.Int.{w32, to_le_bytes}
 use Rattle.std.proofs.lemmas.Bool.Decides.{nat_tests}
 use Rattle.rv_fields.proofs.Told.{told_word}
 use Rattle.hart_task.specs.Bus.{word_seen}
-use Rattle.std.specs.Prelude.{IsTrue, IsSome, pos, ◌+ℤ◌}
-use Rattle.rv_fields.specs.declared.row_table.Ins.TheVariants.{Addi}
+use Rattle.std.specs.Prelude.{IsTrue, IsSome, is_none}
+use Rattle.rv_fields.specs.declared.row_table.Ins.TheVariants.{Addi, Add}
 use Rattle.rv_fields.specs.Attempt.{◌>>=◌}
-use Rattle.rv_fields.specs.Immediate.{wrapped}
-use Rattle.rv_fields.specs.Decode.{decoded}
+use Rattle.rv_fields.specs.Decode.{Decoded, decoded}
 use Rattle.rv_fields.specs.Memory.{Seen, told, in_ram}
 use Rattle.rv_fields.specs.Step.{Hart, Effect, outcome, Retired, Stepped, behind, write_of, retired, step, with_write}
-use Rattle.region_plan.specs.declared.request.Pins.{Pins}
 use Rattle.region_plan.specs.declared.request.Request.{Request}
 use Rattle.region_plan.specs.declared.request.Request.TheVariants as requests
 use Rattle.region_plan.specs.Rules.{IsMakeable}
-use Rattle.hart_task.specs.Machine.{with_present}
-use Rattle.hart_task.specs.Task.{asked}
+use Rattle.hart_task.specs.Machine.{with_present, asked}
 
 -- the hart after a step that retires
 abbrev pub hart_after : Hart → Retired → Hart
@@ -86,29 +83,31 @@ own_word_told at word in_it small = told_word (word_seen at word) at word (is_tr
 
 -- ---- a step that retires: whose it is, and what it writes
 
-found : {A B : Type 0} (m : Option A) (f : A → Option B) (y : B) → (m >>= f) ≡ Some y → (a : A) × (f a ≡ Some y)
+found : {A B : Type 0} (m : Option A) (f : A → Option B) (y : B) → (m >>= f) ≡ Some y → (a : A) × (m ≡ Some a) × (f a ≡ Some y)
 found None f y h = absurd cc
-found (Some a) f y h = (a, h)
+found (Some a) f y h = (a, refl, h)
 
--- the effect's hart and physical address are those of the step, and it writes a register as any instruction does
-pub record IsOf (h place : ℕ) (r : Retired) : Type 0 where
+-- the effect's hart, physical address and word are those of the step, and it writes a register as any instruction does
+pub record IsOf (h place word : ℕ) (r : Retired) : Type 0 where
   pub hart : r.effect.hart ≡ h
   pub pa : r.effect.pa ≡ place
+  pub word_is : r.effect.word ≡ word
   pub register : ℕ
   pub value : ℕ
   pub rd : r.effect.rd ≡ write_of register value
 
-pub effect_is_of : (h pc pa word : ℕ) (registers : ℕ → Option ℕ) (r : Retired) → retired h pc pa word registers ≡ Some r → IsOf h pa r
+pub effect_is_of : (h pc pa word : ℕ) (registers : ℕ → Option ℕ) (r : Retired) → retired h pc pa word registers ≡ Some r → IsOf h pa word r
 unfolding retired
 effect_is_of h pc pa word registers r e =
     let d = found (decoded word) _ r e in
-    let a = found (registers d.0.ops.rs1) _ r d.1 in
-    let b = found (registers d.0.ops.rs2) _ r a.1 in
-    let o = found (outcome d.0.ins d.0.ops pc a.0 b.0) _ r b.1 in
+    let a = found (registers d.0.ops.rs1) _ r d.2 in
+    let b = found (registers d.0.ops.rs2) _ r a.2 in
+    let o = found (outcome d.0.ins d.0.ops pc a.0 b.0) _ r b.2 in
     let is : (record { effect = record { hart = h; pc = pc; pa = pa; word = word; rd = write_of d.0.ops.rd o.0.value }; next = o.0.next }) ≡ r = cc in
     record {
       hart = sym (ap (λ (q : Retired). q.effect.hart) is);
       pa = sym (ap (λ (q : Retired). q.effect.pa) is);
+      word_is = sym (ap (λ (q : Retired). q.effect.word) is);
       register = d.0.ops.rd;
       value = o.0.value;
       rd = sym (ap (λ (q : Retired). q.effect.rd) is);
@@ -133,19 +132,18 @@ extends_write x registers (Some w) h = λ r v. at (eqb r w.0) r v
     at true r v e = cc
     at false r v e = h r v e
 
--- ---- the words that a hart makes retire, whatever its registers other than x0 hold
+-- ---- the words that a hart makes retire
 
--- what addi with x0 does
-abbrev pub plain_effect : ℕ → ℕ → ℕ → Pins → Effect
-plain_effect h pc word pins = record { hart = h; pc = pc; pa = pc; word = word; rd = write_of pins.rd (wrapped (pos 0 +ℤ pins.imm)) }
-
-pub plain_retires : (h pc word : ℕ) (pins : Pins) (registers : ℕ → Option ℕ)
-    → decoded word ≡ Some (asked (requests.Ins Addi pins)) → pins.rs1 ≡ 0 → registers 0 ≡ Some 0
-    → retired h pc pc word registers ≡ Some (record { effect = plain_effect h pc word pins; next = behind pc })
+-- A step asks the sources of its word alone.
+pub retired_alike : (h pc pa word : ℕ) (d : Decoded) (registers others : ℕ → Option ℕ) → decoded word ≡ Some d
+    → registers d.ops.rs1 ≡ others d.ops.rs1 → registers d.ops.rs2 ≡ others d.ops.rs2
+    → retired h pc pa word registers ≡ retired h pc pa word others
 unfolding retired
-plain_retires h pc word pins registers is source zero =
-    let at_source : registers pins.rs1 ≡ Some 0 = ap registers source ∙ zero in
-    rw is (rw at_source (rw zero refl))
+retired_alike h pc pa word d registers others is rs1 rs2 = rw is (rw rs1 (rw rs2 refl))
+
+-- a step that goes on behind its word
+abbrev pub GoesOn : ℕ → Option Retired → Type 0
+GoesOn pc m = (q : Retired) × (m ≡ Some q) × (q.next ≡ behind pc)
 
 -- what the ending step does
 abbrev pub end_effect : ℕ → ℕ → Effect
@@ -159,11 +157,28 @@ end_retires h pc registers aligned small zero =
     let test : eqb ((pc + 0) % 2 ^ 64 % 4) 0 ≡ true = eq-eqb ((pc + 0) % 2 ^ 64 % 4) 0 (ap (λ n. n % 4) same ∙ aligned) in
     rw zero (rw test (ap (λ n. Some (record { effect = end_effect h pc; next = n })) same))
 
--- what the word of a request does
-abbrev pub request_effect : ℕ → ℕ → ℕ → Request → Effect
-request_effect h pc word (requests.Ins ins pins) = plain_effect h pc word pins
+pub request_retires : (r : Request) (h pc word : ℕ) (x : ℕ → ℕ) → IsMakeable r → decoded word ≡ Some (asked r)
+    → GoesOn pc (retired h pc pc word (λ q. Some (x q)))
+unfolding retired
+request_retires (requests.Ins ins pins) h pc word x (inl addi) is =
+    let as_addi : decoded word ≡ Some (asked (requests.Ins Addi pins)) = is ∙ ap (λ i. Some (asked (requests.Ins i pins))) addi.0 in
+    rw as_addi (_, refl, refl)
+request_retires (requests.Ins ins pins) h pc word x (inr add) is =
+    let as_add : decoded word ≡ Some (asked (requests.Ins Add pins)) = is ∙ ap (λ i. Some (asked (requests.Ins i pins))) add.0 in
+    rw as_add (_, refl, refl)
 
-pub request_retires : (r : Request) (h pc word : ℕ) (registers : ℕ → Option ℕ) → IsMakeable r → decoded word ≡ Some (asked r)
-    → registers 0 ≡ Some 0 → retired h pc pc word registers ≡ Some (record { effect = request_effect h pc word r; next = behind pc })
-request_retires (requests.Ins ins pins) h pc word registers makeable is zero =
-    plain_retires h pc word pins registers (is ∙ ap (λ i. Some (asked (requests.Ins i pins))) makeable.0) makeable.1.rs1 zero
+-- the sources of a step have values
+pub sources_told : (h pc pa word : ℕ) (d : Decoded) (registers : ℕ → Option ℕ) (r : Retired) → retired h pc pa word registers ≡ Some r → decoded word ≡ Some d
+    → (is_none (registers d.ops.rs1) ≡ false) × (is_none (registers d.ops.rs2) ≡ false)
+unfolding retired
+sources_told h pc pa word d registers r e is =
+    let read = found (decoded word) _ r e in
+    let first = found (registers read.0.ops.rs1) _ r read.2 in
+    let second = found (registers read.0.ops.rs2) _ r first.2 in
+    let same : read.0 ≡ d = one (decoded word) read.0 d read.1 is in (
+      ap (λ (q : Decoded). is_none (registers q.ops.rs1)) (sym same) ∙ ap is_none first.1,
+      ap (λ (q : Decoded). is_none (registers q.ops.rs2)) (sym same) ∙ ap is_none second.1,
+    )
+  where
+    one : (m : Option Decoded) (a b : Decoded) → m ≡ Some a → m ≡ Some b → a ≡ b
+    one m a b p q = cc

@@ -1,25 +1,29 @@
 -- From one state of a task to the next.
-use Rattle.std.proofs.Common.{ℕ, ◌+◌, ◌<◌, ◌≤◌, ◌≡◌, Bool, true, false, cond, eqb, List, [], ◌∷◌, ◌++◌, length, drop, replicate, get_or, Some, None, refl, sym, ap, subst, ◌∙◌, arith, append_assoc, length-append, eqb-true}
-use Rattle.std.specs.Prelude.{zero, suc, slice_index, slice_get}
-use Rattle.std.specs.Option.{option_map_or}
-use Rattle.rv_fields.specs.Decode.{decoded}
-use Rattle.rv_fields.specs.Step.{Effect, Retired, retired, write_of}
+use Rattle.std.proofs.Common.{ℕ, ◌+◌, ◌<◌, ◌≤◌, ◌≡◌, Bool, true, false, cond, eqb, List, [], ◌∷◌, ◌++◌, length, drop, replicate, get_or, Option, Some, None, inl, inr, refl, sym, ap, subst, ◌∙◌, arith, append_assoc, length-append, eqb-true}
+use Rattle.std.specs.Prelude.{zero, suc, slice_index, slice_get, IsSome, pos, ◌⊎◌}
+use Rattle.std.proofs.lemmas.Bool.{ne_eqb, eq-eqb, cases_eq}
+use Rattle.std.specs.Option.{option_map_or, option_or}
+use Rattle.std.specs.List.{AllByRecursion}
+use Rattle.rv_fields.specs.Decode.{Decoded, decoded, sources}
+use Rattle.rv_fields.specs.Step.{Effect, Retired, retired, updated, write_of}
+use Rattle.rv_fields.specs.declared.row_table.Ins.TheVariants.{Jal}
 use Rattle.region_plan.specs.declared.request.Request.{Request}
 use Rattle.region_plan.specs.Work.{Work, hart_count, template_of}
-use Rattle.trace_text.specs.Lines.{Line, request, made, ending, done}
+use Rattle.choice_tree.specs.Draws.{Draws, word_of}
+use Rattle.trace_text.specs.Lines.{Line, request, fixed, made, ending, done, fixed_by, starting}
 use Rattle.world_face.specs.Runs.{Runs}
 use Rattle.boot_words.specs.Layout.{code_start, code_address}
 use Rattle.hart_task.specs.declared.task.Phase.TheVariants as tasks
 use Rattle.region_plan.specs.declared.request.Request.TheVariants as requests
-use Rattle.hart_task.specs.Answering.{kind_of, Meets}
-use Rattle.hart_task.proofs.Retiring.{rd_is_write, extends_write}
-use Rattle.hart_task.specs.Machine.{HartState, between, begun, stepped, finished, start, legal, after, with_begun, Begins, Makes, Ends, StepsAt, step_of, next_of, with_present, moved}
+use Rattle.hart_task.specs.Answering.{kind_of, stream_of, Meets}
+use Rattle.hart_task.proofs.Retiring.{retired_alike, rd_is_write, extends_write}
+use Rattle.hart_task.specs.Machine.{HartState, between, begun, stepped, finished, start, legal, after, with_begun, asked, untouched_of, Begins, Reads, Fixes, Makes, Ends, StepsAt, step_of, next_of, with_present, moved}
 use Rattle.std.specs.Prelude.{Result, Ok, Err, OnOk, OnErr}
 use Rattle.rv_fields.specs.declared.memory.NoMemory.{NoMemory}
-use Rattle.region_plan.specs.Rules.{KeepsRules}
+use Rattle.region_plan.specs.Rules.{IsMakeable, KeepsRules}
 use Rattle.hart_task.specs.declared.log.Turned.{Turned}
 use Rattle.hart_task.specs.declared.task.HartTask.{HartTask}
-use Rattle.hart_task.specs.Task.{task_seen, IsTaskOf, IsLogOf, Stands, TaskSeen, BeginsRequest, StepsWord, MakesWord, MakesEnd, asked, IsNext, begun_count, word_count, phase_seen}
+use Rattle.hart_task.specs.Task.{task_seen, IsTaskOf, IsLogOf, Stands, TaskSeen, BeginsRequest, FixesSource, ReadsSource, StepsWord, MakesStep, MakesWord, MakesEnd, IsNext, begun_count, word_count, phase_seen}
 
 zero_register : (r v : ℕ) → cond (eqb r 0) (Some 0) None ≡ Some v → get_or (replicate 32 0) r 0 ≡ v
 zero_register r v e = at (eqb r 0) refl e
@@ -28,24 +32,37 @@ zero_register r v e = at (eqb r 0) refl e
     at true is e = let same : r ≡ 0 = eqb-true r 0 (sym is) in ap (λ q. get_or (replicate 32 0) q 0) same ∙ cc
     at false is e = cc
 
+-- sources are registers
+pub sources_small : (r : Request) → IsMakeable r → ((asked r).ops.rs1 < 32) × ((asked r).ops.rs2 < 32)
+sources_small (requests.Ins ins pins) (inl addi) = (addi.1.rs1, omega (arith, addi.1.rs2))
+sources_small (requests.Ins ins pins) (inr add) = (add.1.rs1, add.1.rs2)
+
 -- a task before its first event
-pub stands_new : (work : Work) (h pc : ℕ) (ls : List Line) (es ws : List ℕ) → h < hart_count work → pc ≡ code_start h → ls ≡ [] → ws ≡ []
+pub stands_new : (work : Work) (h pc : ℕ) (draws : Draws) (initial present : ℕ → Option ℕ) (ls : List Line) (es ws : List ℕ) → h < hart_count work → pc ≡ code_start h
+    → draws.stream ≡ stream_of h → draws.drawn ≡ 0 → initial ≡ (λ r. None) → present ≡ updated (λ r. None) 0 (Some 0) → ls ≡ [] → ws ≡ []
     → Stands work (record {
       number = h;
       pc = pc;
       x = replicate 32 0;
       phase = tasks.Between;
       done = 0;
+      draws = draws;
+      initial = initial;
+      present = present;
       log = record { lines = ls; ends = es };
       words = ws;
-    }) (start work h)
-stands_new work h pc ls es ws member at no_lines no_words = record {
-  run = subst (λ l. Runs legal after (start work h) l (start work h)) (sym no_lines) refl;
+    }) (start work draws.seed h)
+stands_new work h pc draws initial present ls es ws member at stream drawn nothing only no_lines no_words = record {
+  run = subst (λ l. Runs legal after (start work draws.seed h) l (start work draws.seed h)) (sym no_lines) refl;
   hart = refl;
   member = member;
   pc = sym at;
-  zero = refl;
-  registers = zero_register;
+  zero = ap (λ (f : ℕ → Option ℕ). f 0) only;
+  registers = sym only;
+  held = λ r v told. zero_register r v (sym (ap (λ (f : ℕ → Option ℕ). f r) only) ∙ told);
+  initial = λ r. ap (λ (f : ℕ → Option ℕ). f r) nothing ∙ ap (λ l. starting l h r) (sym no_lines);
+  draws = λ i. record { seed = draws.seed; stream = stream i; drawn = drawn i };
+  few = omega (arith, drawn);
   phase = refl;
   count = refl;
   left = refl;
@@ -60,6 +77,25 @@ stands_new work h pc ls es ws member at no_lines no_words = record {
 runs_more : (old mid : HartState) (ls : List Line) (l : Line) → Runs legal after old ls mid → legal mid l → Runs legal after old (ls ++ l ∷ []) (after mid l)
 runs_more old mid [] l run ok = (subst (λ s. legal s l) run ok, ap (λ s. after s l) run)
 runs_more old mid (k ∷ ls) l run ok = (run.0, runs_more (after old k) mid ls l run.1 ok)
+
+-- ---- starting values by longer lists of lines
+
+pub starting_append : (ls more : List Line) (h r : ℕ) → starting (ls ++ more) h r ≡ option_or (starting ls h r) (starting more h r)
+starting_append [] more h r = refl
+starting_append (l ∷ ls) more h r =
+    ap (λ o. option_or (fixed_by h r l) o) (starting_append ls more h r) ∙ or_assoc (fixed_by h r l) (starting ls h r) (starting more h r)
+  where
+    or_assoc : (a b c : Option ℕ) → option_or a (option_or b c) ≡ option_or (option_or a b) c
+    or_assoc None b c = refl
+    or_assoc (Some x) b c = refl
+
+pub or_none : (a : Option ℕ) → option_or a None ≡ a
+or_none None = refl
+or_none (Some x) = refl
+
+-- lines that fix nothing
+starting_kept : (ls more : List Line) (h r : ℕ) → starting more h r ≡ None → starting (ls ++ more) h r ≡ starting ls h r
+starting_kept ls more h r none = starting_append ls more h r ∙ ap (option_or (starting ls h r)) none ∙ or_none (starting ls h r)
 
 -- ---- the next request begins
 
@@ -83,16 +119,20 @@ stands_begun work old new s r st is_between at b =
     let to : HartState = record s { left = drop (old.done + 1) template; phase = begun r } in
     let begins : Begins s.phase s.left (kind_of r) =
     subst (λ p. Begins p s.left (kind_of r)) (sym phase) (subst (λ l. Begins between l (kind_of r)) (sym left) refl) in
-    let run : Runs legal after (start work old.number) (old.log.lines ++ line ∷ []) (after s line) =
-    runs_more (start work old.number) s old.log.lines line st.run (sym st.hart, sym st.count, begins) in
+    let run : Runs legal after (start work old.draws.seed old.number) (old.log.lines ++ line ∷ []) (after s line) =
+    runs_more (start work old.draws.seed old.number) s old.log.lines line st.run (sym st.hart, sym st.count, begins) in
     let there : after s line ≡ to = ap (with_begun s) left in
     subst (λ t. Stands work t to) (sym b.task) (record {
-      run = subst (λ q. Runs legal after (start work old.number) (old.log.lines ++ line ∷ []) q) there run;
+      run = subst (λ q. Runs legal after (start work old.draws.seed old.number) (old.log.lines ++ line ∷ []) q) there run;
       hart = st.hart;
       member = st.member;
       pc = st.pc;
       zero = st.zero;
       registers = st.registers;
+      held = st.held;
+      initial = λ q. st.initial q ∙ sym (starting_kept old.log.lines (line ∷ []) old.number q refl);
+      draws = st.draws;
+      few = omega (arith, st.few, length-append old.log.lines (line ∷ []));
       phase = refl;
       count = st.count;
       left = refl;
@@ -103,21 +143,183 @@ stands_begun work old new s r st is_between at b =
       place = st.place;
     })
 
+-- ---- what the request's word reads gets values
+
+-- rs1 is read next where it has no value
+first_reads : (registers : ℕ → Option ℕ) (d : Decoded) → registers d.ops.rs1 ≡ None
+    → (others : List ℕ) × (untouched_of registers (sources d) ≡ d.ops.rs1 ∷ others)
+first_reads registers d none = by (eqb d.ops.rs1 d.ops.rs2)
+  where
+    by : (b : Bool) → (others : List ℕ) × (untouched_of registers (cond b (d.ops.rs1 ∷ []) (d.ops.rs1 ∷ d.ops.rs2 ∷ [])) ≡ d.ops.rs1 ∷ others)
+    by true = rw none (_, refl)
+    by false = rw none (_, refl)
+
+-- rs2 is read next where it has no value, and rs1 has one
+second_reads : (registers : ℕ → Option ℕ) (d : Decoded) (v : ℕ) → registers d.ops.rs1 ≡ Some v → registers d.ops.rs2 ≡ None
+    → (others : List ℕ) × (untouched_of registers (sources d) ≡ d.ops.rs2 ∷ others)
+second_reads registers d v some none = by (eqb d.ops.rs1 d.ops.rs2) refl
+  where
+    by : (b : Bool) → b ≡ eqb d.ops.rs1 d.ops.rs2
+        → (others : List ℕ) × (untouched_of registers (cond b (d.ops.rs1 ∷ []) (d.ops.rs1 ∷ d.ops.rs2 ∷ [])) ≡ d.ops.rs2 ∷ others)
+    by true e = absurd (let same : d.ops.rs1 ≡ d.ops.rs2 = eqb-true _ _ (sym e) in let both : registers d.ops.rs1 ≡ None = ap registers same ∙ none in cc)
+    by false e = rw some (rw none (_, refl))
+
+-- a register gets a value
+told_at : (f : ℕ → Option ℕ) (register value q v : ℕ) → updated f register (Some value) q ≡ Some v
+    → ((q ≡ register) × (value ≡ v)) ⊎ (f q ≡ Some v)
+told_at f register value q v = by (eqb q register) refl
+  where
+    by : (b : Bool) → b ≡ eqb q register → cond b (Some value) (f q) ≡ Some v → ((q ≡ register) × (value ≡ v)) ⊎ (f q ≡ Some v)
+    by true e told = inl (eqb-true q register (sym e), cc)
+    by false e told = inr told
+
+-- it had none, and x0 has one
+other_told : (f : ℕ → Option ℕ) (register value q v : ℕ) → f register ≡ None → f q ≡ Some v → updated f register (Some value) q ≡ Some v
+other_told f register value q v none some = by (eqb q register) refl
+  where
+    by : (b : Bool) → b ≡ eqb q register → cond b (Some value) (f q) ≡ Some v
+    by true e = absurd (let same : q ≡ register = eqb-true q register (sym e) in let both : f q ≡ None = ap f same ∙ none in cc)
+    by false e = some
+
+value_at : (f : ℕ → ℕ) (register value : ℕ) → updated f register value register ≡ value
+value_at f register value = by (eqb register register) refl
+  where
+    by : (b : Bool) → b ≡ eqb register register → cond b value (f register) ≡ value
+    by true e = refl
+    by false e = absurd (let same = eq-eqb register register refl in cc)
+
+other_value : (f : ℕ → ℕ) (g : ℕ → Option ℕ) (register value q v : ℕ) → g register ≡ None → g q ≡ Some v → updated f register value q ≡ f q
+other_value f g register value q v none some = by (eqb q register) refl
+  where
+    by : (b : Bool) → b ≡ eqb q register → cond b value (f q) ≡ f q
+    by true e = absurd (let same : q ≡ register = eqb-true q register (sym e) in let both : g q ≡ None = ap g same ∙ none in cc)
+    by false e = refl
+
+-- the lines tell of the value that was fixed
+starting_fixed : (ls : List Line) (initial : ℕ → Option ℕ) (h register value q : ℕ) → initial q ≡ starting ls h q → initial register ≡ None
+    → updated initial register (Some value) q ≡ starting (ls ++ fixed h register value ∷ []) h q
+starting_fixed ls initial h register value q same none =
+    by (eqb q register) refl ∙ ap (λ o. option_or o (starting (fixed h register value ∷ []) h q)) same ∙ sym (starting_append ls (fixed h register value ∷ []) h q)
+  where
+    tested : eqb h h ≡ true
+    tested = eq-eqb h h refl
+
+    by : (b : Bool) → b ≡ eqb q register → cond b (Some value) (initial q) ≡ option_or (initial q) (starting (fixed h register value ∷ []) h q)
+    by true e =
+        let at : q ≡ register = eqb-true q register (sym e) in
+        let here : initial q ≡ None = ap initial at ∙ none in
+        let hit : eqb register q ≡ true = eq-eqb register q (sym at) in
+        rw here (rw tested (rw hit refl))
+    by false e =
+        let miss : eqb register q ≡ false = elim (cases_eq register q) [
+          | inl at ↦ absurd (let both = eq-eqb q register (sym at) in cc)
+          | inr differ ↦ ne_eqb register q differ
+        ] in
+        rw tested (rw miss (sym (or_none (initial q))))
+
+pub stands_fixed : (work : Work) (old new : TaskSeen) (s : HartState) (r : Request) (register : ℕ) → Stands work old s → old.phase ≡ tasks.Begun r
+    → ((others : List ℕ) × (untouched_of old.present (sources (asked r)) ≡ register ∷ others)) → register < 32 → FixesSource register old new
+    → (t : HartState) × Stands work new t
+stands_fixed work old new s r register st is_begun reads small f =
+    let line : Line = fixed old.number register f.value in
+    let phase : s.phase ≡ begun r = st.phase ∙ ap phase_seen is_begun in
+    let drawn : f.value ≡ word_of s.seed (stream_of s.hart) s.drawn =
+    f.drawn ∙ ap (λ (d : Draws). word_of d.seed d.stream d.drawn) st.draws ∙ ap (λ h. word_of s.seed (stream_of h) s.drawn) (sym st.hart) in
+    let read : Reads s.phase s.registers register =
+    subst (λ p. Reads p s.registers register) (sym phase) (subst (λ g. (others : List ℕ) × (untouched_of g (sources (asked r)) ≡ register ∷ others)) (sym st.registers) reads) in
+    let fixes : Fixes s old.number register f.value = record { of_hart = sym st.hart; reads = read; register_is = small; drawn = drawn; small = f.small } in
+    let to : HartState = after s line in (
+      to,
+      subst (λ t. Stands work t to) (sym f.task) (record {
+        run = runs_more (start work old.draws.seed old.number) s old.log.lines line st.run fixes;
+        hart = st.hart;
+        member = st.member;
+        pc = st.pc;
+        zero = other_told old.present register f.value 0 0 f.untouched st.zero;
+        registers = ap (λ g. updated g register (Some f.value)) st.registers;
+        held = λ q v told. elim (told_at old.present register f.value q v told) [
+          | inl at ↦ ap (λ (g : ℕ → ℕ). g q) f.x ∙ ap (updated (λ k. slice_index old.x k) register f.value) at.0 ∙ value_at (λ k. slice_index old.x k) register f.value ∙ at.1
+          | inr before ↦ ap (λ (g : ℕ → ℕ). g q) f.x ∙ other_value (λ k. slice_index old.x k) old.present register f.value q v f.untouched before ∙ st.held q v before
+        ];
+        initial = λ q. starting_fixed old.log.lines old.initial old.number register f.value q (st.initial q) f.first;
+        draws = ap (λ (d : Draws). record { seed = d.seed; stream = d.stream; drawn = d.drawn + 1 }) st.draws;
+        few = omega (arith, st.few, length-append old.log.lines (line ∷ []));
+        phase = st.phase;
+        count = st.count;
+        left = st.left;
+        request = st.request;
+        many = st.many;
+        words = st.words;
+        made = st.made;
+        place = st.place;
+      }),
+    )
+
+-- A source was read: the task stands, the source has a value, and so has what had one.
+record StandsRead (work : Work) (old new : TaskSeen) (r : Request) (register : ℕ) : Type 0 where
+  state : HartState
+  stands : Stands work new state
+  phase : new.phase ≡ tasks.Begun r
+  value : ℕ
+  told : new.present register ≡ Some value
+  others : (q v : ℕ) → old.present q ≡ Some v → new.present q ≡ Some v
+
+stands_read : (work : Work) (old new : TaskSeen) (s : HartState) (r : Request) (register : ℕ) → Stands work old s → old.phase ≡ tasks.Begun r
+    → (old.present register ≡ None → (others : List ℕ) × (untouched_of old.present (sources (asked r)) ≡ register ∷ others)) → register < 32
+    → ReadsSource register old new → StandsRead work old new r register
+stands_read work old new s r register st is_begun reads small (inl had) =
+    let some : (v : ℕ) × (old.present register ≡ Some v) = got (old.present register) had.0 in
+    record {
+      state = s;
+      stands = subst (λ t. Stands work t s) (sym had.1) st;
+      phase = ap (λ (t : TaskSeen). t.phase) had.1 ∙ is_begun;
+      value = some.0;
+      told = ap (λ (t : TaskSeen). t.present register) had.1 ∙ some.1;
+      others = λ q v told. ap (λ (t : TaskSeen). t.present q) had.1 ∙ told;
+    }
+  where
+    got : (m : Option ℕ) → IsSome m → (v : ℕ) × (m ≡ Some v)
+    got None e = absurd cc
+    got (Some v) e = (v, refl)
+stands_read work old new s r register st is_begun reads small (inr f) =
+    let more = stands_fixed work old new s r register st is_begun (reads f.untouched) small f in
+    record {
+      state = more.0;
+      stands = more.1;
+      phase = ap (λ (t : TaskSeen). t.phase) f.task ∙ is_begun;
+      value = f.value;
+      told = ap (λ (t : TaskSeen). t.present register) f.task ∙ given old.present register f.value;
+      others = λ q v told. ap (λ (t : TaskSeen). t.present q) f.task ∙ other_told old.present register f.value q v f.untouched told;
+    }
+  where
+    given : (g : ℕ → Option ℕ) (q v : ℕ) → updated g q (Some v) q ≡ Some v
+    given g q v = by (eqb q q) refl
+      where
+        by : (b : Bool) → b ≡ eqb q q → cond b (Some v) (g q) ≡ Some v
+        by true e = refl
+        by false e = absurd (let same = eq-eqb q q refl in cc)
+
 -- ---- the request's word is made
 
 meets_asked : (r : Request) (e : Effect) → decoded e.word ≡ Some (asked r) → Meets r e
-meets_asked (requests.Ins ins pins) e is = (asked (requests.Ins ins pins), is, record { ins = refl; rd = refl; rs1 = refl; imm = refl })
+meets_asked (requests.Ins ins pins) e is = (asked (requests.Ins ins pins), is, record { ins = refl; rd = refl; rs1 = refl; rs2 = refl; imm = refl })
 
--- the line of a step that retires is legal where the word stands behind the others
-steps_at : (old new : TaskSeen) (s : HartState) (e : Effect) → s.hart ≡ old.number → s.pc ≡ old.pc → s.registers 0 ≡ Some 0
+-- the line of a step that retires is legal where the word stands behind the others, and its sources have values
+steps_at : (old new : TaskSeen) (s : HartState) (e : Effect) (d : Decoded) (a b : ℕ) → s.hart ≡ old.number → s.pc ≡ old.pc → s.registers ≡ old.present
+    → ((r v : ℕ) → old.present r ≡ Some v → slice_index old.x r ≡ v) → decoded e.word ≡ Some d → old.present d.ops.rs1 ≡ Some a → old.present d.ops.rs2 ≡ Some b
     → s.pc ≡ code_address s.hart (length s.words) → StepsWord old new e → (StepsAt s e) × (next_of s e.word ≡ new.pc)
-steps_at old new s e hart pc is_zero place steps =
-    let here : step_of s e.word ≡ Some (record { effect = e; next = new.pc }) =
-    subst (λ h. retired h s.pc s.pc e.word s.registers ≡ Some (record { effect = e; next = new.pc })) (sym hart)
-    (subst (λ p. retired old.number p p e.word s.registers ≡ Some (record { effect = e; next = new.pc })) (sym pc) (steps.retires s.registers is_zero)) in
-    let next : next_of s e.word ≡ new.pc = ap (λ m. option_map_or (λ (r : Retired). r.next) m s.pc) here in (
+steps_at old new s e d a b hart pc registers held is rs1 rs2 place steps =
+    let told : Option Retired = Some (record { effect = e; next = new.pc }) in
+    let here : retired old.number old.pc old.pc e.word old.present ≡ told =
+    retired_alike old.number old.pc old.pc e.word d old.present (λ q. Some (slice_index old.x q)) is
+    (rs1 ∙ ap Some (sym (held d.ops.rs1 a rs1))) (rs2 ∙ ap Some (sym (held d.ops.rs2 b rs2))) ∙ steps.retires in
+    let there : step_of s e.word ≡ told =
+    subst (λ h. retired h s.pc s.pc e.word s.registers ≡ told) (sym hart)
+    (subst (λ p. retired old.number p p e.word s.registers ≡ told) (sym pc)
+    (subst (λ g. retired old.number old.pc old.pc e.word g ≡ told) (sym registers) here)) in
+    let next : next_of s e.word ≡ new.pc = ap (λ m. option_map_or (λ (r : Retired). r.next) m s.pc) there in (
       record {
-        effect = here ∙ ap (λ n. Some (record { effect = e; next = n })) (sym next);
+        effect = there ∙ ap (λ n. Some (record { effect = e; next = n })) (sym next);
         place = place;
         word = steps.small;
       },
@@ -125,33 +327,42 @@ steps_at old new s e hart pc is_zero place steps =
     )
 
 -- x0 is never written
-zero_stays : (old new : TaskSeen) (s : HartState) (e : Effect) → s.registers 0 ≡ Some 0 → StepsWord old new e → with_present s.registers e.rd 0 ≡ Some 0
-zero_stays old new s e is_zero steps =
-    let w = rd_is_write old.number old.pc old.pc e.word s.registers (record { effect = e; next = new.pc }) (steps.retires s.registers is_zero) in
-    subst (λ rd. with_present s.registers rd 0 ≡ Some 0) (sym w.2) (kept w.0 w.1)
+zero_stays : (old new : TaskSeen) (e : Effect) → old.present 0 ≡ Some 0 → StepsWord old new e → new.present 0 ≡ Some 0
+zero_stays old new e is_zero steps =
+    let w = rd_is_write old.number old.pc old.pc e.word (λ q. Some (slice_index old.x q)) (record { effect = e; next = new.pc }) steps.retires in
+    ap (λ (g : ℕ → Option ℕ). g 0) steps.present ∙ subst (λ rd. with_present old.present rd 0 ≡ Some 0) (sym w.2) (kept w.0 w.1)
   where
-    held : s.registers 0 ≡ Some 0
+    held : old.present 0 ≡ Some 0
     held = is_zero
 
-    kept : (r v : ℕ) → with_present s.registers (write_of r v) 0 ≡ Some 0
+    kept : (r v : ℕ) → with_present old.present (write_of r v) 0 ≡ Some 0
     kept zero v = held
     kept (suc r) v = other (eqb 0 (suc r)) refl
       where
-        other : (b : Bool) → b ≡ eqb 0 (suc r) → cond b (Some v) (s.registers 0) ≡ Some 0
+        other : (b : Bool) → b ≡ eqb 0 (suc r) → cond b (Some v) (old.present 0) ≡ Some 0
         other true is = absurd (let same : 0 ≡ suc r = eqb-true 0 (suc r) (sym is) in omega arith)
         other false is = is_zero
 
 -- a write changes what is told and what the hart holds alike
-held_after : (old new : TaskSeen) (s : HartState) (e : Effect) → StepsWord old new e → ((r v : ℕ) → s.registers r ≡ Some v → slice_index old.x r ≡ v)
-    → (r v : ℕ) → with_present s.registers e.rd r ≡ Some v → slice_index new.x r ≡ v
-held_after old new s e steps held r v told =
-    ap (λ (f : ℕ → ℕ). f r) steps.x ∙ extends_write (λ q. slice_index old.x q) s.registers e.rd held r v told
+held_after : (old new : TaskSeen) (e : Effect) → StepsWord old new e → ((r v : ℕ) → old.present r ≡ Some v → slice_index old.x r ≡ v)
+    → (r v : ℕ) → new.present r ≡ Some v → slice_index new.x r ≡ v
+held_after old new e steps held r v told =
+    ap (λ (f : ℕ → ℕ). f r) steps.x ∙ extends_write (λ q. slice_index old.x q) old.present e.rd held r v (sym (ap (λ (g : ℕ → Option ℕ). g r) steps.present) ∙ told)
 
-pub stands_made : (work : Work) (old new : TaskSeen) (s : HartState) (r : Request) → hart_count work ≡ 1 → length (template_of work 0) ≤ 1000
-    → Stands work old s → old.phase ≡ tasks.Begun r → MakesWord r old new
+-- what a step leaves of the draws
+draws_after : (old new : TaskSeen) (s : HartState) (e : Effect) → StepsWord old new e → new.number ≡ old.number
+    → old.draws ≡ record { seed = s.seed; stream = stream_of old.number; drawn = s.drawn }
+    → new.draws ≡ record { seed = s.seed; stream = stream_of new.number; drawn = s.drawn }
+draws_after old new s e steps number are =
+    steps.draws ∙ are ∙ ap (λ h. record { seed = s.seed; stream = stream_of h; drawn = s.drawn }) (sym number)
+
+-- the step of a task that stands behind so many words
+step_stands : (work : Work) (old new : TaskSeen) (s : HartState) (r : Request) (a b : ℕ) → hart_count work ≡ 1 → length (template_of work 0) ≤ 1000
+    → Stands work old s → old.phase ≡ tasks.Begun r → old.present (asked r).ops.rs1 ≡ Some a → old.present (asked r).ops.rs2 ≡ Some b → MakesStep r old new
     → (t : HartState) × Stands work new t
-stands_made work old new s r one room st is_begun m =
+step_stands work old new s r a b one room st is_begun rs1 rs2 m =
     let e : Effect = m.effect in
+    let seed : ℕ = old.draws.seed in
     let h : old.number ≡ 0 = omega (arith, one, st.member) in
     let phase : s.phase ≡ begun r = st.phase ∙ ap phase_seen is_begun in
     let words : length old.words ≡ old.done = st.made ∙ ap (λ p. word_count p old.done) is_begun in
@@ -161,24 +372,33 @@ stands_made work old new s r one room st is_begun m =
     let few : old.done + 1 ≤ 1000 = omega (arith, many, room) in
     let place : s.pc ≡ code_address s.hart (length s.words) =
     st.pc ∙ st.place ∙ ap (λ n. code_address old.number n) (sym count) ∙ ap (λ n. code_address n (length s.words)) (sym st.hart) in
-    let at : (StepsAt s e) × (next_of s e.word ≡ new.pc) = steps_at old new s e st.hart st.pc st.zero place m.steps in
+    let at : (StepsAt s e) × (next_of s e.word ≡ new.pc) =
+    steps_at old new s e (asked r) a b st.hart st.pc st.registers st.held m.word rs1 rs2 place m.steps in
     let makes : Makes s.phase e = subst (λ p. Makes p e) (sym phase) (meets_asked r e m.word) in
     let mid : HartState = moved s e stepped in
     let to : HartState = after mid (done old.number old.done) in
-    let first : Runs legal after (start work old.number) (old.log.lines ++ made e ∷ []) mid =
-    runs_more (start work old.number) s old.log.lines (made e) st.run (makes, at.0) in
-    let second : Runs legal after (start work old.number) ((old.log.lines ++ made e ∷ []) ++ done old.number old.done ∷ []) to =
-    runs_more (start work old.number) mid (old.log.lines ++ made e ∷ []) (done old.number old.done) first (sym st.hart, sym st.count, refl) in
+    let first : Runs legal after (start work seed old.number) (old.log.lines ++ made e ∷ []) mid =
+    runs_more (start work seed old.number) s old.log.lines (made e) st.run (makes, at.0) in
+    let second : Runs legal after (start work seed old.number) ((old.log.lines ++ made e ∷ []) ++ done old.number old.done ∷ []) to =
+    runs_more (start work seed old.number) mid (old.log.lines ++ made e ∷ []) (done old.number old.done) first (sym st.hart, sym st.count, refl) in
     let lines : (old.log.lines ++ made e ∷ []) ++ done old.number old.done ∷ [] ≡ new.log.lines =
-    append_assoc old.log.lines (made e ∷ []) (done old.number old.done ∷ []) ∙ sym m.lines in (
+    append_assoc old.log.lines (made e ∷ []) (done old.number old.done ∷ []) ∙ sym m.lines in
+    let behind_seed : new.draws.seed ≡ seed = ap (λ (d : Draws). d.seed) m.steps.draws in (
       to,
       record {
-        run = subst (λ n. Runs legal after (start work n) new.log.lines to) (sym m.number) (subst (λ ls. Runs legal after (start work old.number) ls to) lines second);
+        run = subst (λ k. Runs legal after (start work k new.number) new.log.lines to) (sym behind_seed)
+            (subst (λ n. Runs legal after (start work seed n) new.log.lines to) (sym m.number) (subst (λ ls. Runs legal after (start work seed old.number) ls to) lines second));
         hart = st.hart ∙ sym m.number;
         member = subst (λ n. n < hart_count work) (sym m.number) st.member;
         pc = at.1;
-        zero = zero_stays old new s e st.zero m.steps;
-        registers = held_after old new s e m.steps st.registers;
+        zero = zero_stays old new e st.zero m.steps;
+        registers = ap (λ g. with_present g e.rd) st.registers ∙ sym m.steps.present;
+        held = held_after old new e m.steps st.held;
+        initial = λ q. ap (λ (g : ℕ → Option ℕ). g q) m.steps.initial ∙ st.initial q
+            ∙ sym (starting_kept old.log.lines (made e ∷ done old.number old.done ∷ []) old.number q refl)
+            ∙ ap (λ ls. starting ls old.number q) (sym m.lines) ∙ ap (λ n. starting new.log.lines n q) (sym m.number);
+        draws = draws_after old new s e m.steps m.number st.draws;
+        few = omega (arith, st.few, ap (λ (d : Draws). d.drawn) m.steps.draws, ap length m.lines, length-append old.log.lines (made e ∷ done old.number old.done ∷ []));
         phase = ap phase_seen (sym m.phase);
         count = ap (λ n. n + 1) st.count ∙ sym m.count;
         left = st.left ∙ ap (λ p. drop (begun_count p old.done) (template_of work old.number)) is_begun
@@ -194,7 +414,21 @@ stands_made work old new s r one room st is_begun m =
       },
     )
 
+pub stands_made : (work : Work) (old new : TaskSeen) (s : HartState) (r : Request) → hart_count work ≡ 1 → length (template_of work 0) ≤ 1000 → IsMakeable r
+    → Stands work old s → old.phase ≡ tasks.Begun r → MakesWord r old new
+    → (t : HartState) × Stands work new t
+stands_made work old new s r one room makeable st is_begun m =
+    let small = sources_small r makeable in
+    let a = stands_read work old m.first s r (asked r).ops.rs1 st is_begun (first_reads old.present (asked r)) small.0 m.reads_rs1 in
+    let b = stands_read work m.first m.second a.state r (asked r).ops.rs2 a.stands a.phase
+    (second_reads m.first.present (asked r) a.value a.told) small.1 m.reads_rs2 in
+    step_stands work m.second new b.state r a.value b.value one room b.stands b.phase (b.others (asked r).ops.rs1 a.value a.told) b.told m.makes
+
 -- ---- the ending step is made
+
+-- what the ending word says
+abbrev end_jump : Decoded
+end_jump = record { ins = Jal; ops = record { rd = 0; rs1 = 0; rs2 = 0; imm = pos 0; aqrl = 0 } }
 
 drop-nil : (i : ℕ) → drop {A = Request} i [] ≡ []
 drop-nil zero = refl
@@ -217,19 +451,30 @@ stands_ended work old new s st is_between past m =
     let begun_many : old.done ≤ length (template_of work old.number) = subst (λ p. begun_count p old.done ≤ length (template_of work old.number)) is_between st.many in
     let place : s.pc ≡ code_address s.hart (length s.words) =
     st.pc ∙ st.place ∙ ap (λ n. code_address old.number n) (sym count) ∙ ap (λ n. code_address n (length s.words)) (sym st.hart) in
-    let at : (StepsAt s e) × (next_of s e.word ≡ new.pc) = steps_at old new s e st.hart st.pc st.zero place m.steps in
+    let ends_word : decoded e.word ≡ Some end_jump = ap decoded m.word in
+    let at : (StepsAt s e) × (next_of s e.word ≡ new.pc) =
+    steps_at old new s e end_jump 0 0 st.hart st.pc st.registers st.held ends_word st.zero st.zero place m.steps in
+    let seed : ℕ = old.draws.seed in
+    let behind_seed : new.draws.seed ≡ seed = ap (λ (d : Draws). d.seed) m.steps.draws in
     let ends : Ends s.phase s.left = subst (λ p. Ends p s.left) (sym phase) (subst (λ l. Ends between l) (sym left) tt) in
     let to : HartState = moved s e finished in
-    let run : Runs legal after (start work old.number) (old.log.lines ++ ending e ∷ []) to =
-    runs_more (start work old.number) s old.log.lines (ending e) st.run (ends, m.word, at.0) in (
+    let run : Runs legal after (start work seed old.number) (old.log.lines ++ ending e ∷ []) to =
+    runs_more (start work seed old.number) s old.log.lines (ending e) st.run (ends, m.word, at.0) in (
       to,
       record {
-        run = subst (λ n. Runs legal after (start work n) new.log.lines to) (sym m.number) (subst (λ ls. Runs legal after (start work old.number) ls to) (sym m.lines) run);
+        run = subst (λ k. Runs legal after (start work k new.number) new.log.lines to) (sym behind_seed)
+            (subst (λ n. Runs legal after (start work seed n) new.log.lines to) (sym m.number) (subst (λ ls. Runs legal after (start work seed old.number) ls to) (sym m.lines) run));
         hart = st.hart ∙ sym m.number;
         member = subst (λ n. n < hart_count work) (sym m.number) st.member;
         pc = at.1;
-        zero = zero_stays old new s e st.zero m.steps;
-        registers = held_after old new s e m.steps st.registers;
+        zero = zero_stays old new e st.zero m.steps;
+        registers = ap (λ g. with_present g e.rd) st.registers ∙ sym m.steps.present;
+        held = held_after old new e m.steps st.held;
+        initial = λ q. ap (λ (g : ℕ → Option ℕ). g q) m.steps.initial ∙ st.initial q
+            ∙ sym (starting_kept old.log.lines (ending e ∷ []) old.number q refl)
+            ∙ ap (λ ls. starting ls old.number q) (sym m.lines) ∙ ap (λ n. starting new.log.lines n q) (sym m.number);
+        draws = draws_after old new s e m.steps m.number st.draws;
+        few = omega (arith, st.few, ap (λ (d : Draws). d.drawn) m.steps.draws, ap length m.lines, length-append old.log.lines (ending e ∷ []));
         phase = ap phase_seen (sym m.phase);
         count = st.count ∙ sym m.count;
         left = st.left ∙ ap (λ p. drop (begun_count p old.done) (template_of work old.number)) is_between
@@ -244,6 +489,20 @@ stands_ended work old new s st is_between past m =
         place = m.next ∙ st.place ∙ ap (λ n. code_address n old.done) (sym m.number) ∙ ap (λ n. code_address new.number n) (sym m.count);
       },
     )
+
+-- the request under way can be made
+all_behind : (P : Request → Type 0) (rs qs : List Request) (n : ℕ) (r : Request) → AllByRecursion P rs → drop n rs ≡ r ∷ qs → P r
+all_behind P [] qs n r all at = absurd (let none : [] ≡ r ∷ qs = sym (drop-nil n) ∙ at in cc)
+all_behind P (q ∷ rs) qs zero r all at = let same : q ≡ r = cc in subst P same all.0
+all_behind P (q ∷ rs) qs (suc n) r all at = all_behind P rs qs n r all.1 at
+
+pub makeable_next : (work : Work) (t : HartTask) (r : Request) → KeepsRules work → IsTaskOf work t → t.phase ≡ tasks.Begun r → IsMakeable r
+makeable_next work t r rules task is_begun =
+    let st = task.stands in
+    let h : t.hart.number ≡ 0 = omega (arith, rules.one_hart, st.member) in
+    let next : drop t.done (template_of work t.hart.number) ≡ r ∷ drop (t.done + 1) (template_of work t.hart.number) =
+    subst (IsNext (template_of work t.hart.number) t.done) is_begun st.request in
+    all_behind IsMakeable (template_of work 0) _ t.done r rules.requests (subst (λ n. drop t.done (template_of work n) ≡ r ∷ drop (t.done + 1) (template_of work n)) h next)
 
 -- ---- what a turn leaves is the job's task, also where memory ran out
 
@@ -262,7 +521,7 @@ after_begin work old new r (Err e) t is_between at begins same = stays work old 
 pub after_make : (work : Work) (old new : HartTask) (r : Request) (result : Result Turned NoMemory) → KeepsRules work → IsTaskOf work old → old.phase ≡ tasks.Begun r
     → OnOk result (MakesWord r (task_seen old) (task_seen new)) → OnErr result (task_seen new ≡ task_seen old) → IsTaskOf work new
 after_make work old new r (Ok turned) rules t is_begun makes same =
-    let more = stands_made work (task_seen old) (task_seen new) t.state r rules.one_hart rules.room t.stands is_begun makes in
+    let more = stands_made work (task_seen old) (task_seen new) t.state r rules.one_hart rules.room (makeable_next work old r rules t is_begun) t.stands is_begun makes in
     record { state = more.0; stands = more.1 }
 after_make work old new r (Err e) rules t is_begun makes same = stays work old new same t
 
@@ -276,7 +535,7 @@ after_end work old new (Err e) t is_between past makes same = stays work old new
 
 -- ---- the log of a finished task
 
-pub log_of : (work : Work) (t : HartTask) → KeepsRules work → IsTaskOf work t → t.phase ≡ tasks.Finished → IsLogOf work t.hart.number t.log
+pub log_of : (work : Work) (t : HartTask) → KeepsRules work → IsTaskOf work t → t.phase ≡ tasks.Finished → IsLogOf work t.draws.seed t.hart.number t.log
 log_of work t rules task is_finished =
     let st = task.stands in
     let h : t.hart.number ≡ 0 = omega (arith, rules.one_hart, st.member) in
@@ -286,5 +545,6 @@ log_of work t rules task is_finished =
     record {
       run = record { end = task.state; run = st.run; is_finished = st.phase ∙ ap phase_seen is_finished };
       words = st.words;
+      values = st.initial;
       room = omega (arith, made, many, rules.room);
     }

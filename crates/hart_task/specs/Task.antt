@@ -1,24 +1,25 @@
 -- A hart's task and its log, as runs of the hart's machine.
-use Rattle.std.specs.Prelude.{ℕ, ◌≡◌, ◌+◌, ◌-◌, ◌*◌, ◌≤◌, ◌<◌, List, [], ◌∷◌, ◌++◌, ◌^◌, length, drop, slice_index, Option, Some}
+use Rattle.std.specs.Prelude.{ℕ, ◌≡◌, ◌+◌, ◌-◌, ◌*◌, ◌≤◌, ◌<◌, ◌⊎◌, List, [], ◌∷◌, ◌++◌, ◌^◌, length, drop, slice_index, Option, Some, None, IsSome}
 use Rattle.region_plan.specs.declared.request.Request.{Request}
-use Rattle.region_plan.specs.declared.request.Request.TheVariants as requests
 use Rattle.region_plan.specs.Work.{Work, hart_count, template_of}
-use Rattle.trace_text.specs.Lines.{Line}
+use Rattle.choice_tree.specs.Draws.{Draws, word_of}
+use Rattle.value_file.specs.Values.{initial_of, present_of}
+use Rattle.trace_text.specs.Lines.{Line, starting}
 use Rattle.trace_text.specs.Views.{lines_seen}
 use Rattle.world_face.specs.Runs.{Runs}
 use Rattle.world_face.specs.Events.{Log, AddsEvent}
 use Rattle.boot_words.specs.Layout.{code_address}
-use Rattle.rv_fields.specs.Decode.{Decoded, decoded}
-use Rattle.rv_fields.specs.Step.{Effect, behind, retired, with_write}
-use Rattle.trace_text.specs.Lines.{request, made, ending, done}
+use Rattle.rv_fields.specs.Decode.{decoded}
+use Rattle.rv_fields.specs.Step.{Effect, behind, retired, updated, with_write}
+use Rattle.trace_text.specs.Lines.{request, fixed, made, ending, done}
 use Rattle.hart_task.specs.declared.log.HartLog.{HartLog}
 use Rattle.hart_task.specs.declared.log.Turned.{Turned}
 use Rattle.hart_task.specs.declared.log.Turned.TheVariants as turned
 use Rattle.hart_task.specs.declared.task.Phase as task
 use Rattle.hart_task.specs.declared.task.Phase.TheVariants as tasks
 use Rattle.hart_task.specs.declared.task.HartTask.{HartTask}
-use Rattle.hart_task.specs.Answering.{kind_of, end_word}
-use Rattle.hart_task.specs.Machine.{HartState, Phase, between, begun, finished, start, legal, after}
+use Rattle.hart_task.specs.Answering.{kind_of, stream_of, end_word}
+use Rattle.hart_task.specs.Machine.{HartState, Phase, between, begun, finished, start, legal, after, asked, with_present}
 
 -- the lines of a log, and the log of a task
 abbrev pub log_lines : HartLog → List Line
@@ -28,15 +29,17 @@ abbrev pub log_seen : HartLog → Log
 log_seen log = record { lines = log_lines log; ends = log.ends.items }
 
 -- a finished hart's lines are a run of its machine from start to end
-pub record IsFinishedRun (work : Work) (h : ℕ) (lines : List Line) : Type 0 where
+pub record IsFinishedRun (work : Work) (seed h : ℕ) (lines : List Line) : Type 0 where
   pub end : HartState
-  pub run : Runs legal after (start work h) lines end
+  pub run : Runs legal after (start work seed h) lines end
   pub is_finished : end.phase ≡ finished
 
--- a finished hart's log: its words are those that the run made, no more than a page holds
-pub record IsLogOf (work : Work) (h : ℕ) (log : HartLog) : Type 0 where
-  pub run : IsFinishedRun work h (log_lines log)
+-- a finished hart's log: its words are those that the run made, no more than a page holds, and its values have been
+-- fixed exactly by the lines
+pub record IsLogOf (work : Work) (seed h : ℕ) (log : HartLog) : Type 0 where
+  pub run : IsFinishedRun work seed h (log_lines log)
   pub words : run.end.words ≡ log.words.items
+  pub values : (r : ℕ) → initial_of log.values r ≡ starting (log_lines log) h r
   pub room : length log.words.items ≤ 1024
 
 abbrev pub phase_seen : task.Phase → Phase
@@ -69,6 +72,9 @@ pub record TaskSeen : Type 0 where
   pub x : List ℕ
   pub phase : task.Phase
   pub done : ℕ
+  pub draws : Draws
+  pub initial : ℕ → Option ℕ
+  pub present : ℕ → Option ℕ
   pub log : Log
   pub words : List ℕ
 
@@ -79,19 +85,27 @@ task_seen t = record {
   x = t.hart.x;
   phase = t.phase;
   done = t.done;
+  draws = t.draws;
+  initial = initial_of t.log.values;
+  present = present_of t.log.values;
   log = log_seen t.log;
   words = t.log.words.items;
 }
 
 -- The task stands at a state of the hart's machine.
 pub record Stands (work : Work) (t : TaskSeen) (s : HartState) : Type 0 where
-  pub run : Runs legal after (start work t.number) t.log.lines s
+  pub run : Runs legal after (start work t.draws.seed t.number) t.log.lines s
   pub hart : s.hart ≡ t.number
   pub member : t.number < hart_count work
   pub pc : s.pc ≡ t.pc
   -- x0 has a value, and the hart's registers are those that have one
-  pub zero : s.registers 0 ≡ Some 0
-  pub registers : (r v : ℕ) → s.registers r ≡ Some v → slice_index t.x r ≡ v
+  pub zero : t.present 0 ≡ Some 0
+  pub registers : s.registers ≡ t.present
+  pub held : (r v : ℕ) → t.present r ≡ Some v → slice_index t.x r ≡ v
+  -- what the lines fix was drawn, and no more
+  pub initial : (r : ℕ) → t.initial r ≡ starting t.log.lines t.number r
+  pub draws : t.draws ≡ record { seed = s.seed; stream = stream_of t.number; drawn = s.drawn }
+  pub few : t.draws.drawn ≤ length t.log.lines
   pub phase : s.phase ≡ phase_seen t.phase
   pub count : s.count ≡ t.done
   pub left : s.left ≡ drop (begun_count t.phase t.done) (template_of work t.number)
@@ -133,19 +147,37 @@ pub record BeginsRequest (r : Request) (old new : TaskSeen) : Type 0 where
     };
   }
 
--- A step of a word retires, whatever registers other than x0 hold: its effect, the next pc, and the registers after it.
+-- The register, which is untouched, is fixed: its line stands behind the others.
+pub record FixesSource (register : ℕ) (old new : TaskSeen) : Type 0 where
+  pub untouched : old.present register ≡ None
+  pub first : old.initial register ≡ None
+  pub value : ℕ
+  pub drawn : value ≡ word_of old.draws.seed old.draws.stream old.draws.drawn
+  pub small : value < 2 ^ 64
+  pub x : (λ r. slice_index new.x r) ≡ updated (λ r. slice_index old.x r) register value
+  pub task : new ≡ record old {
+    x = new.x;
+    draws = record { seed = old.draws.seed; stream = old.draws.stream; drawn = old.draws.drawn + 1 };
+    initial = updated old.initial register (Some value);
+    present = updated old.present register (Some value);
+    log = record { lines = old.log.lines ++ fixed old.number register value ∷ []; ends = old.log.ends };
+  }
+
+-- the register gets a value, if it has none
+abbrev pub ReadsSource : ℕ → TaskSeen → TaskSeen → Type 0
+ReadsSource register old new = (IsSome (old.present register) × (new ≡ old)) ⊎ FixesSource register old new
+
+-- A step of a word retires: its effect, the next pc, and the registers after it.
 pub record StepsWord (old new : TaskSeen) (e : Effect) : Type 0 where
   pub small : e.word < 2 ^ 32
-  pub retires : (registers : ℕ → Option ℕ) → registers 0 ≡ Some 0
-      → retired old.number old.pc old.pc e.word registers ≡ Some (record { effect = e; next = new.pc })
+  pub retires : retired old.number old.pc old.pc e.word (λ r. Some (slice_index old.x r)) ≡ Some (record { effect = e; next = new.pc })
   pub x : (λ r. slice_index new.x r) ≡ with_write (λ r. slice_index old.x r) e.rd
-
--- the operands that a request gives
-abbrev pub asked : Request → Decoded
-asked (requests.Ins ins pins) = record { ins = ins; ops = record { rd = pins.rd; rs1 = pins.rs1; rs2 = 0; imm = pins.imm; aqrl = 0 } }
+  pub present : new.present ≡ with_present old.present e.rd
+  pub initial : new.initial ≡ old.initial
+  pub draws : new.draws ≡ old.draws
 
 -- the request makes its word, and is done
-pub record MakesWord (r : Request) (old new : TaskSeen) : Type 0 where
+pub record MakesStep (r : Request) (old new : TaskSeen) : Type 0 where
   pub effect : Effect
   pub word : decoded effect.word ≡ Some (asked r)
   pub next : new.pc ≡ behind old.pc
@@ -155,6 +187,18 @@ pub record MakesWord (r : Request) (old new : TaskSeen) : Type 0 where
   pub words : new.words ≡ old.words ++ effect.word ∷ []
   pub number : new.number ≡ old.number
   pub phase : new.phase ≡ tasks.Between
+  pub count : new.done ≡ old.done + 1
+
+-- What its word reads gets values first. All of it is one event.
+pub record MakesWord (r : Request) (old new : TaskSeen) : Type 0 where
+  pub first : TaskSeen
+  pub second : TaskSeen
+  pub reads_rs1 : ReadsSource (asked r).ops.rs1 old first
+  pub reads_rs2 : ReadsSource (asked r).ops.rs2 first second
+  pub makes : MakesStep r second new
+  pub event : AddsEvent old.log new.log (length old.log.ends)
+  pub number : new.number ≡ old.number
+  pub seed : new.draws.seed ≡ old.draws.seed
   pub count : new.done ≡ old.done + 1
 
 -- the hart makes its ending step

@@ -1,10 +1,11 @@
 -- A job that is accepted keeps the rules.
-use Rattle.std.proofs.Common.{suc, codes, ◌≡◌, ◌≤◌, List, [], ◌∷◌, length, Option, Some, None, Result, Ok, Err, refl, ap, subst, arith}
+use Rattle.std.proofs.Common.{ℕ, suc, codes, ◌≡◌, ◌<◌, ◌≤◌, Bool, true, false, cond, inl, inr, List, [], ◌∷◌, length, Option, Some, None, Result, Ok, Err, refl, ap, subst, arith}
 use Rattle.std.specs.Prelude.{IfOk}
 use Rattle.std.specs.List.{AllByRecursion}
-use Rattle.std.proofs.lemmas.Bool.{and_parts, ltb-true, leb-true, eqb-true}
+use Rattle.std.proofs.lemmas.Bool.{and_parts, ltb-true, leb-true}
 use Rattle.std.proofs.lemmas.Option.{cond_some, same_Some}
-use Rattle.serde_json.specs.Data.{Data, Items, no_items, item}
+use Rattle.std.specs.Str.{bytes_eq}
+use Rattle.serde_json.specs.Data.{Data, Members, Items, no_items, item}
 use Rattle.serde_json.specs.Events.{items_len}
 use Rattle.serde_json.specs.Find.{as_array, get_member}
 use Rattle.rv_fields.specs.Attempt.{◌>>=◌}
@@ -15,26 +16,62 @@ use Rattle.region_plan.specs.Work.{Work, work_of}
 use Rattle.choice_tree.specs.declared.input.InputFault.{InputFault}
 use Rattle.choice_tree.specs.Input.{Reads}
 use Rattle.choice_tree.specs.Json.{object_of, natural_at, integer_at, text_at}
-use Rattle.job_read.specs.Accepted.{request_of, requests_of, most_requests, template_of, hart_of, job_of}
+use Rattle.job_read.specs.Accepted.{register_at, addi_of, add_of, request_of, requests_of, most_requests, template_of, hart_of, job_of}
 
 -- two steps that found something: the first found what the second goes on with
 both_found : {A B : Type 0} (first : Option A) (next : A → Option B) (found : B) → (first >>= next) ≡ Some found → (x : A) × (first ≡ Some x) × (next x ≡ Some found)
 both_found None next found e = absurd cc
 both_found (Some x) next found e = (x, refl, e)
 
+-- a number that is a register
+register_small : (key : List ℕ) (members : Members) (register : ℕ) → register_at key members ≡ Some register → register < 32
+register_small key members register e =
+    let number = both_found (natural_at key members) _ register e in
+    let passed = cond_some _ _ register number.2 in
+    rw (← passed.1) (ltb-true _ _ passed.0)
+
 -- a request that is accepted can be made
+addi_makeable : (members : Members) (request : Request) → addi_of members ≡ Some request → IsMakeable request
+addi_makeable members request e =
+    let rd = both_found (register_at (codes "rd") members) _ request e in
+    let rs1 = both_found (register_at (codes "rs1") members) _ request rd.2 in
+    let imm = both_found (integer_at (codes "imm") members) _ request rs1.2 in
+    let passed = cond_some _ _ request imm.2 in
+    rw (← passed.1) (inl (
+      refl,
+      record {
+        rd = register_small (codes "rd") members rd.0 rd.1;
+        rs1 = register_small (codes "rs1") members rs1.0 rs1.1;
+        rs2 = refl;
+        imm = passed.0;
+      },
+    ))
+
+add_makeable : (members : Members) (request : Request) → add_of members ≡ Some request → IsMakeable request
+add_makeable members request e =
+    let rd = both_found (register_at (codes "rd") members) _ request e in
+    let rs1 = both_found (register_at (codes "rs1") members) _ request rd.2 in
+    let rs2 = both_found (register_at (codes "rs2") members) _ request rs1.2 in
+    rw (← same_Some _ _ rs2.2) (inr (
+      refl,
+      record {
+        rd = register_small (codes "rd") members rd.0 rd.1;
+        rs1 = register_small (codes "rs1") members rs1.0 rs1.1;
+        rs2 = register_small (codes "rs2") members rs2.0 rs2.1;
+        imm = refl;
+      },
+    ))
+
 request_makeable : (value : Data) (request : Request) → request_of value ≡ Some request → IsMakeable request
 request_makeable value request e =
     let members = both_found (object_of 4 value) _ request e in
     let name = both_found (text_at (codes "ins") members.0) _ request members.2 in
-    let rd = both_found (natural_at (codes "rd") members.0) _ request name.2 in
-    let rs1 = both_found (natural_at (codes "rs1") members.0) _ request rd.2 in
-    let imm = both_found (integer_at (codes "imm") members.0) _ request rs1.2 in
-    let passed = cond_some _ _ request imm.2 in
-    let to_imm = and_parts _ _ passed.0 in
-    let to_rs1 = and_parts _ _ to_imm.0 in
-    let to_rd = and_parts _ _ to_rs1.0 in
-    rw (← passed.1) (refl, record { rd = ltb-true _ _ to_rd.1; rs1 = eqb-true _ _ to_rs1.1; imm = to_imm.1 })
+    by (bytes_eq name.0 (codes "addi")) (bytes_eq name.0 (codes "add")) members.0 name.2
+  where
+    by : (a b : Bool) (members : Members) → cond a (addi_of members) (cond b (add_of members) None) ≡ Some request → IsMakeable request
+    by true b ms e = addi_makeable ms request e
+    by false true ms e = add_makeable ms request e
+    by false false ms e = absurd cc
 
 -- accepted requests can be made, and are as many as their items
 requests_makeable : (items : Items) (requests : List Request) → requests_of items ≡ Some requests → AllByRecursion IsMakeable requests × (length requests ≡ items_len items)

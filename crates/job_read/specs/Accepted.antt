@@ -1,10 +1,10 @@
 -- The jobs that are accepted, as the JSON values that they are.
-use Rattle.std.specs.Prelude.{ℕ, List, [], ◌∷◌, codes, nat_lt, nat_le, ◌==◌, ◌&&◌, Option, Some, None, if◌then◌else◌}
+use Rattle.std.specs.Prelude.{ℕ, pos, List, [], ◌∷◌, codes, nat_lt, nat_le, ◌==◌, ◌&&◌, Option, Some, None, if◌then◌else◌}
 use Rattle.std.specs.Str.{bytes_eq}
-use Rattle.serde_json.specs.Data.{Data, Items, no_items, item}
+use Rattle.serde_json.specs.Data.{Data, Members, Items, no_items, item}
 use Rattle.serde_json.specs.Events.{items_len}
 use Rattle.serde_json.specs.Find.{as_array, get_member}
-use Rattle.rv_fields.specs.declared.row_table.Ins.TheVariants.{Addi}
+use Rattle.rv_fields.specs.declared.row_table.Ins.TheVariants.{Addi, Add}
 use Rattle.rv_fields.specs.Attempt.{◌>>=◌}
 use Rattle.rv_fields.specs.Immediate.{fits_i}
 use Rattle.region_plan.specs.declared.request.Request.{Request}
@@ -12,17 +12,34 @@ use Rattle.region_plan.specs.declared.request.Request.TheVariants.{Ins}
 use Rattle.region_plan.specs.Work.{Work}
 use Rattle.choice_tree.specs.Json.{document, object_of, natural_at, integer_at, text_at}
 
--- {"ins":"addi","rd":R,"rs1":0,"imm":I}, with R below 32 and an I that fits
+-- a register: a number below 32
+abbrev pub register_at : List ℕ → Members → Option ℕ
+register_at key members = do
+  number ← natural_at key members
+  if nat_lt number 32 then Some number else None
+
+-- {"ins":"addi","rd":R,"rs1":S,"imm":I}, with an I that fits
+abbrev pub addi_of : Members → Option Request
+addi_of members = do
+  rd ← register_at (codes "rd") members
+  rs1 ← register_at (codes "rs1") members
+  imm ← integer_at (codes "imm") members
+  if fits_i imm then Some (Ins Addi (record { rd = rd; rs1 = rs1; rs2 = 0; imm = imm })) else None
+
+-- {"ins":"add","rd":R,"rs1":S,"rs2":T}
+abbrev pub add_of : Members → Option Request
+add_of members = do
+  rd ← register_at (codes "rd") members
+  rs1 ← register_at (codes "rs1") members
+  rs2 ← register_at (codes "rs2") members
+  Some (Ins Add (record { rd = rd; rs1 = rs1; rs2 = rs2; imm = pos 0 }))
+
+-- an item of either instruction; it has no more members than these
 abbrev pub request_of : Data → Option Request
 request_of value = do
   members ← object_of 4 value
   name ← text_at (codes "ins") members
-  rd ← natural_at (codes "rd") members
-  rs1 ← natural_at (codes "rs1") members
-  imm ← integer_at (codes "imm") members
-  if bytes_eq name (codes "addi") && nat_lt rd 32 && (rs1 == 0) && fits_i imm
-      then Some (Ins Addi (record { rd = rd; rs1 = rs1; imm = imm }))
-      else None
+  if bytes_eq name (codes "addi") then addi_of members else if bytes_eq name (codes "add") then add_of members else None
 
 -- each item is a request
 abbrev pub requests_of : Items → Option (List Request)

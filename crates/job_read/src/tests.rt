@@ -45,6 +45,7 @@ fn reads_a_request(rt: HostRuntime) -> Result<(), Fail> {
     let pins = Pins {
         rd: 1,
         rs1: 0,
+        rs2: 0,
         imm: 5,
     };
     assert_eq!(rt; job.hart_count(), 1);
@@ -56,6 +57,41 @@ fn reads_a_request(rt: HostRuntime) -> Result<(), Fail> {
         }]
         .as_slice()
     );
+    Ok(())
+}
+
+#[test]
+fn reads_a_sum_of_two_registers(rt: HostRuntime) -> Result<(), Fail> {
+    let text = job_of(rt.alloc(), r#"{"rs2":31,"ins":"add","rd":3,"rs1":1}"#)?;
+    let job = read_job(rt.alloc(), text.as_bytes())?;
+    let pins = Pins {
+        rd: 3,
+        rs1: 1,
+        rs2: 31,
+        imm: 0,
+    };
+    assert_eq!(rt;
+        job.template(0),
+        [Request::Ins {
+            ins: Ins::Add,
+            pins
+        }]
+        .as_slice()
+    );
+    Ok(())
+}
+
+#[test]
+fn reads_every_source_register(rt: HostRuntime) -> Result<(), Fail> {
+    for (rs1, is_register) in [(0, true), (1, true), (31, true), (32, false), (256, false)] {
+        let request = format!(in rt.alloc(); r#"{{"ins":"addi","rd":1,"rs1":{rs1},"imm":5}}"#)?;
+        let text = job_of(rt.alloc(), request.as_str())?;
+        assert_eq!(rt;
+            read_job(rt.alloc(), text.as_bytes()).is_ok(),
+            is_register,
+            "{rs1}"
+        );
+    }
     Ok(())
 }
 
@@ -103,8 +139,11 @@ fn reads_immediates_of_12_bits(rt: HostRuntime) -> Result<(), Fail> {
 fn refuses_other_requests(rt: HostRuntime) -> Result<(), Fail> {
     for request in [
         r#"{"ins":"addi","rd":32,"rs1":0,"imm":5}"#,
-        r#"{"ins":"addi","rd":1,"rs1":1,"imm":5}"#,
         r#"{"ins":"add","rd":1,"rs1":0,"imm":5}"#,
+        r#"{"ins":"add","rd":1,"rs1":0,"rs2":32}"#,
+        r#"{"ins":"add","rd":1,"rs1":0,"rs2":2,"imm":0}"#,
+        r#"{"ins":"sub","rd":1,"rs1":0,"rs2":2}"#,
+        r#"{"ins":"jal","rd":1,"imm":8}"#,
         r#"{"ins":"addi","rd":"1","rs1":0,"imm":5}"#,
         r#"{"ins":"addi","rd":1,"rs1":0}"#,
         r#"{"ins":"addi","rd":1,"rs1":0,"imm":5,"avoid":0}"#,

@@ -7,6 +7,7 @@ fn keeps_templates_in_order(rt: HostRuntime) -> Result<(), Fail> {
     let pins = Pins {
         rd: 1,
         rs1: 0,
+        rs2: 0,
         imm: -5,
     };
     let request = Request::Ins {

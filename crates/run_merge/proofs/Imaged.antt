@@ -6,7 +6,7 @@ use Rattle.rv_fields.specs.Memory.{whole, told, in_ram}
 use Rattle.rv_fields.specs.Step.{Effect}
 use Rattle.ram_image.specs.Pieces.{Piece, piece_byte, byte_in, laid}
 use Rattle.region_plan.specs.declared.request.Request.{Request}
-use Rattle.trace_text.specs.Lines.{Line, request, made, ending, done}
+use Rattle.trace_text.specs.Lines.{Line, request, fixed, made, ending, done}
 use Rattle.world_face.specs.Runs.{Runs}
 use Rattle.boot_words.specs.Layout.{code_address}
 use Rattle.hart_task.specs.Machine.{HartState, stepped, finished, legal, after, with_begun, StepsAt, moved}
@@ -70,6 +70,9 @@ coded [] s end h ws is_hart is_words run = record {
 coded (request h' k kind ∷ ls) s end h ws is_hart is_words run =
     let c : Coded h ws ls end = coded ls (with_begun s s.left) end h ws (hart-with_begun s s.left ∙ is_hart) (words-with_begun s s.left ∙ is_words) run.1 in
     record { rest = c.rest; words = c.words; laid_out = c.laid_out; bytes = c.bytes }
+coded (fixed h' register value ∷ ls) s end h ws is_hart is_words run =
+    let c : Coded h ws ls end = coded ls (after s (fixed h' register value)) end h ws is_hart is_words run.1 in
+    record { rest = c.rest; words = c.words; laid_out = c.laid_out; bytes = c.bytes }
 coded (made e ∷ ls) s end h ws is_hart is_words run =
     let c : Coded h (ws ++ e.word ∷ []) ls end = coded ls (moved s e stepped) end h (ws ++ e.word ∷ []) is_hart (ap (λ l. l ++ e.word ∷ []) is_words) run.1 in
     let more = coded_word h ws e ls end (placed_at h ws s e is_hart is_words run.0.1) c in
@@ -128,6 +131,8 @@ pub tells : (memory : ℕ → ℕ) (lines : List Line) (s end : HartState) (h : 
 tells memory [] s end h ws is_hart is_words run room holds = tt
 tells memory (request h' k kind ∷ ls) s end h ws is_hart is_words run room holds =
     (tt, tells memory ls (with_begun s s.left) end h ws (hart-with_begun s s.left ∙ is_hart) (words-with_begun s s.left ∙ is_words) run.1 room holds)
+tells memory (fixed h' register value ∷ ls) s end h ws is_hart is_words run room holds =
+    (tt, tells memory ls (after s (fixed h' register value)) end h ws is_hart is_words run.1 room holds)
 tells memory (made e ∷ ls) s end h ws is_hart is_words run room holds =
     let words : (moved s e stepped).words ≡ ws ++ e.word ∷ [] = ap (λ l. l ++ e.word ∷ []) is_words in
     let c : Coded h (ws ++ e.word ∷ []) ls end = coded ls (moved s e stepped) end h (ws ++ e.word ∷ []) is_hart words run.1 in

@@ -5,3 +5,4 @@ pub mod Imaged
 pub mod Merged
 pub mod Laying
 pub mod Segmented
+pub mod Tabled

@@ -13,7 +13,7 @@ abbrev pub AreLaid : ℕ → List Piece → ℕ → Type 0
 AreLaid from [] to = from ≤ to
 AreLaid from (p ∷ ps) to = (from ≤ p.at) × AreLaid (p.at + length p.bytes) ps to
 
-piece_outside : (p : Piece) (a : ℕ) → (a < p.at) ⊎ (p.at + length p.bytes ≤ a) → piece_byte p a ≡ None
+pub piece_outside : (p : Piece) (a : ℕ) → (a < p.at) ⊎ (p.at + length p.bytes ≤ a) → piece_byte p a ≡ None
 piece_outside p a (inl h) = grind (arith, nat_tests)
 piece_outside p a (inr h) = grind (arith, nat_tests)
 

@@ -1,17 +1,18 @@
 -- Over any memory that tells the words of the step lines, the harts of finished runs do what the lines tell.
-use Rattle.std.proofs.Common.{ℕ, ◌<◌, ◌≡◌, Bool, true, false, eqb, cond, List, [], ◌∷◌, Option, Some, None, refl, sym, subst, ◌∙◌, eq-eqb, eqb-true}
+use Rattle.std.proofs.Common.{ℕ, ◌<◌, ◌≡◌, Bool, true, false, eqb, cond, List, [], ◌∷◌, Option, Some, None, refl, sym, ap, subst, ◌∙◌, eq-eqb, eqb-true}
 use Rattle.std.specs.List.{AllByRecursion}
 use Rattle.rv_fields.specs.Attempt.{◌>>=◌}
-use Rattle.rv_fields.specs.Decode.{decoded}
+use Rattle.std.specs.Prelude.{is_none}
+use Rattle.rv_fields.specs.Decode.{decoded, sources}
 use Rattle.rv_fields.specs.Memory.{whole, told}
-use Rattle.rv_fields.specs.Step.{Hart, Effect, Retired, retired, step, updated}
+use Rattle.rv_fields.specs.Step.{Hart, Effect, Retired, retired, step, updated, with_write}
 use Rattle.rv_fields.specs.Play.{Machine, Plays, with_hart}
 use Rattle.region_plan.specs.declared.request.Request.{Request}
-use Rattle.trace_text.specs.Lines.{Line, request, made, ending, done, hart_of, lines_of, effects_of}
+use Rattle.trace_text.specs.Lines.{Line, request, fixed, made, ending, done, hart_of, lines_of, effects_of}
 use Rattle.world_face.specs.Runs.{Runs}
-use Rattle.hart_task.specs.Machine.{HartState, Phase, stepped, finished, legal, after, with_begun, StepsAt, next_of, moved}
+use Rattle.hart_task.specs.Machine.{HartState, Phase, between, begun, stepped, finished, legal, after, with_begun, asked, untouched_of, Reads, Fixes, StepsAt, next_of, with_present, moved}
 use Rattle.hart_task.proofs.Retiring.{Extends, extends_write, effect_is_of, hart_after, step_told}
-use Rattle.run_merge.specs.Justified.{order_of}
+use Rattle.run_merge.specs.Justified.{HasFixed, order_of}
 
 -- ---- a step needs no more of the registers than what it was told
 
@@ -34,20 +35,70 @@ retired_whole h pc pa word registers x r e extends =
 
 -- ---- a hart of the machine stands where its log does
 
-pub record Over (s : HartState) (hart : Hart) : Type 0 where
+-- it started with these registers, and those that no line has touched are as they were
+pub record Over (x : ℕ → ℕ) (s : HartState) (hart : Hart) : Type 0 where
   pub number : hart.number ≡ s.hart
   pub pc : hart.pc ≡ s.pc
   pub registers : Extends hart.x s.registers
+  pub untouched : (r : ℕ) → s.registers r ≡ None → hart.x r ≡ x r
+
+-- a write leaves the others
+untouched_write : (x y : ℕ → ℕ) (registers : ℕ → Option ℕ) (w : Option (ℕ × ℕ)) → ((r : ℕ) → registers r ≡ None → y r ≡ x r)
+    → (r : ℕ) → with_present registers w r ≡ None → with_write y w r ≡ x r
+untouched_write x y registers None h = h
+untouched_write x y registers (Some w) h = λ r. at (eqb r w.0) r
+  where
+    at : (b : Bool) (r : ℕ) → cond b (Some w.1) (registers r) ≡ None → cond b w.1 (y r) ≡ x r
+    at true r e = absurd cc
+    at false r e = h r e
+
+-- the first of those without a value has none
+first_untouched : (registers : ℕ → Option ℕ) (rs : List ℕ) (register : ℕ) (others : List ℕ) → untouched_of registers rs ≡ register ∷ others → registers register ≡ None
+first_untouched registers [] register others e = absurd cc
+first_untouched registers (q ∷ rs) register others e = by (registers q) refl (first_untouched registers rs register others) e
+  where
+    by : (m : Option ℕ) → m ≡ registers q → (untouched_of registers rs ≡ register ∷ others → registers register ≡ None)
+        → cond (is_none m) (q ∷ untouched_of registers rs) (untouched_of registers rs) ≡ register ∷ others → registers register ≡ None
+    by None is more h = let same : q ≡ register = cc in ap registers (sym same) ∙ sym is
+    by (Some v) is more h = more h
+
+-- a register that is read next has no value yet
+pub read_next : (phase : Phase) (registers : ℕ → Option ℕ) (register : ℕ) → Reads phase registers register → registers register ≡ None
+read_next between registers register reads = absurd reads
+read_next (begun r) registers register reads = first_untouched registers (sources (asked r)) register reads.0 reads.1
+read_next stepped registers register reads = absurd reads
+read_next finished registers register reads = absurd reads
+
+-- a register is fixed by the value that it started with
+over_fixed : (x : ℕ → ℕ) (s : HartState) (hart : Hart) (h register value : ℕ) → Over x s hart → Fixes s h register value → x register ≡ value
+    → Over x (after s (fixed h register value)) hart
+over_fixed x s hart h register value over fixes is = record {
+  number = over.number;
+  pc = over.pc;
+  registers = λ r v. held r v (eqb r register) refl;
+  untouched = λ r. kept (eqb r register) r;
+}
+  where
+    here : hart.x register ≡ value
+    here = over.untouched register (read_next s.phase s.registers register fixes.reads) ∙ is
+
+    held : (r v : ℕ) (t : Bool) → t ≡ eqb r register → cond t (Some value) (s.registers r) ≡ Some v → hart.x r ≡ v
+    held r v true is told = let same : r ≡ register = eqb-true r register (sym is) in ap hart.x same ∙ here ∙ cc
+    held r v false is told = over.registers r v told
+
+    kept : (t : Bool) (r : ℕ) → cond t (Some value) (s.registers r) ≡ None → hart.x r ≡ x r
+    kept true r none = absurd cc
+    kept false r none = over.untouched r none
 
 -- The effect of the line is what the machine's hart does, and it stands where the log does again.
-record Stepping (memory : ℕ → ℕ) (s : HartState) (e : Effect) (phase : Phase) (hart : Hart) : Type 0 where
+record Stepping (memory x : ℕ → ℕ) (s : HartState) (e : Effect) (phase : Phase) (hart : Hart) : Type 0 where
   next : Hart
   steps : step (whole memory) hart ≡ Some (record { effect = e; hart = next })
-  over : Over (moved s e phase) next
+  over : Over x (moved s e phase) next
 
-stepping : (memory : ℕ → ℕ) (s : HartState) (e : Effect) (phase : Phase) (hart : Hart)
-    → Over s hart → StepsAt s e → told (whole memory) e.pa 4 ≡ Some (Some e.word) → Stepping memory s e phase hart
-stepping memory s e phase hart over at tells =
+stepping : (memory x : ℕ → ℕ) (s : HartState) (e : Effect) (phase : Phase) (hart : Hart)
+    → Over x s hart → StepsAt s e → told (whole memory) e.pa 4 ≡ Some (Some e.word) → Stepping memory x s e phase hart
+stepping memory x s e phase hart over at tells =
     let r : Retired = record { effect = e; next = next_of s e.word } in
     let here : retired s.hart s.pc s.pc e.word (λ q. Some (hart.x q)) ≡ Some r =
     retired_whole s.hart s.pc s.pc e.word s.registers hart.x r at.effect over.registers in
@@ -58,7 +109,12 @@ stepping memory s e phase hart over at tells =
     record {
       next = hart_after hart r;
       steps = step_told (whole memory) hart e.word r (subst (λ p. told (whole memory) p 4 ≡ Some (Some e.word)) place tells) there;
-      over = record { number = over.number; pc = refl; registers = extends_write hart.x s.registers e.rd over.registers };
+      over = record {
+        number = over.number;
+        pc = refl;
+        registers = extends_write hart.x s.registers e.rd over.registers;
+        untouched = untouched_write x hart.x s.registers e.rd over.untouched;
+      };
     }
 
 -- ---- all harts, in the order of the lines
@@ -66,6 +122,7 @@ stepping memory s e phase hart over at tells =
 -- the word of a step line stands in memory at its place
 abbrev pub TellsWord : (ℕ → ℕ) → Line → Type 0
 TellsWord memory (request h k kind) = Unit {0}
+TellsWord memory (fixed h register value) = Unit {0}
 TellsWord memory (made e) = told (whole memory) e.pa 4 ≡ Some (Some e.word)
 TellsWord memory (ending e) = told (whole memory) e.pa 4 ≡ Some (Some e.word)
 TellsWord memory (done h k) = Unit {0}
@@ -109,9 +166,9 @@ others_run n states ends l ls runs h small = by (eqb (hart_of l) h) (eqb h (hart
     by false true eb ec run =
         let same : h ≡ hart_of l = eqb-true h (hart_of l) (sym ec) in absurd (let e = eq-eqb (hart_of l) h (sym same) in cc)
 
--- each hart of the machine stands where its log does
-unfoldable pub AllOver : ℕ → (ℕ → HartState) → (ℕ → Hart) → Type 0
-AllOver n states harts = (h : ℕ) → h < n → Over (states h) (harts h)
+-- each hart of the machine, which started with these registers, stands where its log does
+unfoldable pub AllOver : ℕ → (ℕ → ℕ → ℕ) → (ℕ → HartState) → (ℕ → Hart) → Type 0
+AllOver n starts states harts = (h : ℕ) → h < n → Over (starts h) (states h) (harts h)
 
 -- each state is that of the hart of its number
 unfoldable pub Named : ℕ → (ℕ → HartState) → Type 0
@@ -123,6 +180,7 @@ hart-with_begun s (r ∷ rs) = refl
 
 hart-after : (s : HartState) (l : Line) → (after s l).hart ≡ s.hart
 hart-after s (request h k kind) = hart-with_begun s s.left
+hart-after s (fixed h register value) = refl
 hart-after s (made e) = refl
 hart-after s (ending e) = refl
 hart-after s (done h k) = refl
@@ -137,67 +195,75 @@ named_after n states l named h small = by (eqb h (hart_of l)) refl
     by false e = named h small
 
 -- one hart goes on, in its log and in the machine
-over_updated : (n : ℕ) (states : ℕ → HartState) (harts : ℕ → Hart) (place : ℕ) (s : HartState) (hart : Hart)
-    → AllOver n states harts → Over s hart → AllOver n (updated states place s) (updated harts place hart)
+over_updated : (n : ℕ) (starts : ℕ → ℕ → ℕ) (states : ℕ → HartState) (harts : ℕ → Hart) (place : ℕ) (s : HartState) (hart : Hart)
+    → AllOver n starts states harts → Over (starts place) s hart → AllOver n starts (updated states place s) (updated harts place hart)
 unfolding AllOver
-over_updated n states harts place s hart over here h small = by (eqb h place)
+over_updated n starts states harts place s hart over here h small = by (eqb h place) refl
   where
-    by : (b : Bool) → Over (cond b s (states h)) (cond b hart (harts h))
-    by true = here
-    by false = over h small
-
--- its log goes on, and the machine stays
-over_noted : (n : ℕ) (states : ℕ → HartState) (harts : ℕ → Hart) (place : ℕ) (s : HartState)
-    → AllOver n states harts → Over s (harts place) → AllOver n (updated states place s) harts
-unfolding AllOver
-over_noted n states harts place s over here h small = by (eqb h place) refl
-  where
-    by : (b : Bool) → b ≡ eqb h place → Over (cond b s (states h)) (harts h)
-    by true e = let same : h ≡ place = eqb-true h place (sym e) in subst (λ q. Over s (harts q)) (sym same) here
+    by : (b : Bool) → b ≡ eqb h place → Over (starts h) (cond b s (states h)) (cond b hart (harts h))
+    by true e = let same : h ≡ place = eqb-true h place (sym e) in subst (λ q. Over (starts q) s hart) (sym same) here
     by false e = over h small
 
-over_begun : (s : HartState) (hart : Hart) (rs : List Request) → Over s hart → Over (with_begun s rs) hart
-over_begun s hart [] over = over
-over_begun s hart (r ∷ rs) over = record { number = over.number; pc = over.pc; registers = over.registers }
+-- its log goes on, and the machine stays
+over_noted : (n : ℕ) (starts : ℕ → ℕ → ℕ) (states : ℕ → HartState) (harts : ℕ → Hart) (place : ℕ) (s : HartState)
+    → AllOver n starts states harts → Over (starts place) s (harts place) → AllOver n starts (updated states place s) harts
+unfolding AllOver
+over_noted n starts states harts place s over here h small = by (eqb h place) refl
+  where
+    by : (b : Bool) → b ≡ eqb h place → Over (starts h) (cond b s (states h)) (harts h)
+    by true e = let same : h ≡ place = eqb-true h place (sym e) in subst (λ q. Over (starts q) s (harts q)) (sym same) here
+    by false e = over h small
+
+over_begun : (x : ℕ → ℕ) (s : HartState) (hart : Hart) (rs : List Request) → Over x s hart → Over x (with_begun s rs) hart
+over_begun x s hart [] over = over
+over_begun x s hart (r ∷ rs) over = record { number = over.number; pc = over.pc; registers = over.registers; untouched = over.untouched }
 
 -- the effect of a legal step is its hart's
 pub hart_of_step : (s : HartState) (e : Effect) → StepsAt s e → e.hart ≡ s.hart
 hart_of_step s e at = (effect_is_of s.hart s.pc s.pc e.word s.registers _ at.effect).hart
 
-pub playing : (n : ℕ) (lines : List Line) (states ends : ℕ → HartState) (machine : Machine)
-    → AllByRecursion (λ l. hart_of l < n) lines → Running n states ends lines → Named n states → AllOver n states machine.harts
-    → AllByRecursion (TellsWord machine.memory) lines
+pub playing : (n : ℕ) (lines : List Line) (starts : ℕ → ℕ → ℕ) (states ends : ℕ → HartState) (machine : Machine)
+    → AllByRecursion (λ l. hart_of l < n) lines → Running n states ends lines → Named n states → AllOver n starts states machine.harts
+    → AllByRecursion (HasFixed starts) lines → AllByRecursion (TellsWord machine.memory) lines
     → Plays machine (order_of (effects_of lines)) (effects_of lines)
 unfolding AllOver
-playing n [] states ends machine small runs named over tells = tt
-playing n (request h k kind ∷ ls) states ends machine small runs named over tells =
-    playing n ls (after_line states (request h k kind)) ends machine small.1
+playing n [] starts states ends machine small runs named over fixes tells = tt
+playing n (request h k kind ∷ ls) starts states ends machine small runs named over fixes tells =
+    playing n ls starts (after_line states (request h k kind)) ends machine small.1
     (others_run n states ends (request h k kind) ls runs) (named_after n states (request h k kind) named)
-    (over_noted n states machine.harts h (with_begun (states h) (states h).left) over (over_begun (states h) (machine.harts h) (states h).left (over h small.0)))
-    tells.1
-playing n (made e ∷ ls) states ends machine small runs named over tells =
+    (over_noted n starts states machine.harts h (with_begun (states h) (states h).left) over (over_begun (starts h) (states h) (machine.harts h) (states h).left (over h small.0)))
+    fixes.1 tells.1
+playing n (fixed h register value ∷ ls) starts states ends machine small runs named over fixes tells =
+    let line : Line = fixed h register value in
+    let legally : Fixes (states h) h register value = first_legal n states ends line ls runs small.0 in
+    playing n ls starts (after_line states line) ends machine small.1
+    (others_run n states ends line ls runs) (named_after n states line named)
+    (over_noted n starts states machine.harts h (after (states h) line) over (over_fixed (starts h) (states h) (machine.harts h) h register value (over h small.0) legally fixes.0))
+    fixes.1 tells.1
+playing n (made e ∷ ls) starts states ends machine small runs named over fixes tells =
     let at : StepsAt (states e.hart) e = (first_legal n states ends (made e) ls runs small.0).1 in
-    let s : Stepping machine.memory (states e.hart) e stepped (machine.harts e.hart) =
-    stepping machine.memory (states e.hart) e stepped (machine.harts e.hart) (over e.hart small.0) at tells.0 in (
+    let s : Stepping machine.memory (starts e.hart) (states e.hart) e stepped (machine.harts e.hart) =
+    stepping machine.memory (starts e.hart) (states e.hart) e stepped (machine.harts e.hart) (over e.hart small.0) at tells.0 in (
       s.next,
       s.steps,
-      playing n ls (after_line states (made e)) ends (with_hart machine e.hart s.next) small.1
+      playing n ls starts (after_line states (made e)) ends (with_hart machine e.hart s.next) small.1
           (others_run n states ends (made e) ls runs) (named_after n states (made e) named)
-          (over_updated n states machine.harts e.hart (moved (states e.hart) e stepped) s.next over s.over) tells.1,
+          (over_updated n starts states machine.harts e.hart (moved (states e.hart) e stepped) s.next over s.over) fixes.1 tells.1,
     )
-playing n (ending e ∷ ls) states ends machine small runs named over tells =
+playing n (ending e ∷ ls) starts states ends machine small runs named over fixes tells =
     let at : StepsAt (states e.hart) e = (first_legal n states ends (ending e) ls runs small.0).2 in
-    let s : Stepping machine.memory (states e.hart) e finished (machine.harts e.hart) =
-    stepping machine.memory (states e.hart) e finished (machine.harts e.hart) (over e.hart small.0) at tells.0 in (
+    let s : Stepping machine.memory (starts e.hart) (states e.hart) e finished (machine.harts e.hart) =
+    stepping machine.memory (starts e.hart) (states e.hart) e finished (machine.harts e.hart) (over e.hart small.0) at tells.0 in (
       s.next,
       s.steps,
-      playing n ls (after_line states (ending e)) ends (with_hart machine e.hart s.next) small.1
+      playing n ls starts (after_line states (ending e)) ends (with_hart machine e.hart s.next) small.1
           (others_run n states ends (ending e) ls runs) (named_after n states (ending e) named)
-          (over_updated n states machine.harts e.hart (moved (states e.hart) e finished) s.next over s.over) tells.1,
+          (over_updated n starts states machine.harts e.hart (moved (states e.hart) e finished) s.next over s.over) fixes.1 tells.1,
     )
-playing n (done h k ∷ ls) states ends machine small runs named over tells =
-    let here : Over (after (states h) (done h k)) (machine.harts h) =
-    record { number = (over h small.0).number; pc = (over h small.0).pc; registers = (over h small.0).registers } in
-    playing n ls (after_line states (done h k)) ends machine small.1
+playing n (done h k ∷ ls) starts states ends machine small runs named over fixes tells =
+    let before : Over (starts h) (states h) (machine.harts h) = over h small.0 in
+    let here : Over (starts h) (after (states h) (done h k)) (machine.harts h) =
+    record { number = before.number; pc = before.pc; registers = before.registers; untouched = before.untouched } in
+    playing n ls starts (after_line states (done h k)) ends machine small.1
     (others_run n states ends (done h k) ls runs) (named_after n states (done h k) named)
-    (over_noted n states machine.harts h (after (states h) (done h k)) over here) tells.1
+    (over_noted n starts states machine.harts h (after (states h) (done h k)) over here) fixes.1 tells.1

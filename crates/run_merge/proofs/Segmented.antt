@@ -1,5 +1,5 @@
 -- The bytes of the segments, laid piece by piece, and that the segments are sound.
-use Rattle.std.proofs.Common.{ℕ, ◌-◌, ◌*◌, ◌≤◌, ◌≡◌, true, leb, List, [], ◌∷◌, ◌++◌, length, replicate, refl, ap, ◌∙◌, arith, lit≤, length-append}
+use Rattle.std.proofs.Common.{ℕ, ◌-◌, ◌*◌, ◌≤◌, ◌≡◌, true, leb, Option, List, [], ◌∷◌, ◌++◌, length, replicate, refl, ap, ◌∙◌, arith, lit≤, length-append}
 use Rattle.std.specs.Int.{w32, to_le_bytes}
 use Rattle.std.proofs.lemmas.Bool.Decides.{nat_tests}
 use Rattle.rv_fields.specs.declared.mode.Mode.TheVariants.{S, M}
@@ -28,14 +28,14 @@ handler_bytes none b1 b2 h1 h2 e is1 is2 l1 l2 =
     laid_next 0x80020000 (p1 ∷ []) 0x80021000 p2 0x1000 b1 b2 (lit≤ tt, lit≤ tt) refl first
     (l2 ∙ ap (λ ws. b1 ++ (replicate (0x1000 - length b1) 0 ++ word_bytes ws)) is2)
 
-pub startup_bytes : (none b1 b2 b3 b4 d b c x : List ℕ) (n2 n3 n4 : ℕ) → n2 ≡ 0x1000 → n3 ≡ 0x1400 → n4 ≡ 0x1478 → none ≡ [] → d ≡ dispatcher 1 → b ≡ boot_block → c ≡ boot_csrs 0 → x ≡ boot_registers
+pub startup_bytes : (initial : ℕ → Option ℕ) (none b1 b2 b3 b4 d b c x : List ℕ) (n2 n3 n4 : ℕ) → n2 ≡ 0x1000 → n3 ≡ 0x1400 → n4 ≡ 0x1478 → none ≡ [] → d ≡ dispatcher 1 → b ≡ boot_block → c ≡ boot_csrs 0 → x ≡ boot_registers initial
     → LaysWords none 0 d b1 → LaysWords b1 n2 b b2 → LaysValues b2 n3 c b3 → LaysValues b3 n4 x b4
-    → b4 ≡ laid 0x80000000 (startup_pieces 1)
-startup_bytes none b1 b2 b3 b4 d b c x n2 n3 n4 at2 at3 at4 e is1 is2 is3 is4 l1 l2 l3 l4 =
+    → b4 ≡ laid 0x80000000 (startup_pieces (λ hart. initial) 1)
+startup_bytes initial none b1 b2 b3 b4 d b c x n2 n3 n4 at2 at3 at4 e is1 is2 is3 is4 l1 l2 l3 l4 =
     let p1 : Piece = record { at = dispatcher_at; bytes = word_bytes (dispatcher 1) } in
     let p2 : Piece = record { at = boot_block_at 0; bytes = word_bytes boot_block } in
     let p3 : Piece = record { at = boot_csrs_at 0; bytes = value_bytes (boot_csrs 0) } in
-    let p4 : Piece = record { at = boot_registers_at 0; bytes = value_bytes boot_registers } in
+    let p4 : Piece = record { at = boot_registers_at 0; bytes = value_bytes (boot_registers initial) } in
     let first : b1 ≡ laid 0x80000000 (p1 ∷ []) =
     laid_next 0x80000000 [] 0x80000000 p1 0 none b1 (lit≤ tt) refl e (l1 ∙ ap (λ ws. none ++ (replicate (0 - length none) 0 ++ word_bytes ws)) is1) in
     let second : b2 ≡ laid 0x80000000 (p1 ∷ p2 ∷ []) =
@@ -53,8 +53,8 @@ length-word_bytes [] = refl
 length-word_bytes (w ∷ ws) =
     length-append (to_le_bytes w32 w) (word_bytes ws) ∙ omega (arith, length-word_bytes ws)
 
-pub program_sound : (words : List ℕ) → length words ≤ 1024 → are_sound (program words) ≡ true
-program_sound words short =
+pub program_sound : (initial : ℕ → Option ℕ) (words : List ℕ) → length words ≤ 1024 → are_sound (program initial words) ≡ true
+program_sound initial words short =
     let room : leb (length (word_bytes words)) 0x1000 ≡ true = grind (arith, nat_tests, length-word_bytes words) in
     rw room refl
 

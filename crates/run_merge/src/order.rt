@@ -31,6 +31,6 @@ fn stepping_hart(line: &Line) -> Option<u8>
 {
     match line {
         Line::S(step) | Line::E(step) => Some(step.hart),
-        Line::Q { .. } | Line::D { .. } => None,
+        Line::Q { .. } | Line::X { .. } | Line::D { .. } => None,
     }
 }

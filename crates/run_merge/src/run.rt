@@ -1,13 +1,15 @@
 ghost use Rattle.std.specs.Prelude.{◌≡◌, ◌≤◌, length};
 
 use trace_text::Line;
+use value_file::ValueFile;
 
 /// What the harts of a job did.
-#[derive(Debug, Drop)]
+#[derive(Drop)]
 pub struct Run {
     pub(crate) lines: Vec<Line>,
     pub(crate) order: Vec<u8>,
     pub(crate) words: Vec<u32>,
+    pub(crate) values: ValueFile,
     ghost room: { length words.items ≤ 1024 },
 }
 

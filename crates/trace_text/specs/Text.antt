@@ -5,7 +5,7 @@ use Rattle.std.specs.Fmt.{decimal, digits}
 use Rattle.rv_fields.specs.Step.{Effect}
 use Rattle.trace_text.specs.declared.line.Kind.{Kind}
 use Rattle.trace_text.specs.declared.line.Kind.TheVariants.{Ins}
-use Rattle.trace_text.specs.Lines.{Line, request, made, ending, done}
+use Rattle.trace_text.specs.Lines.{Line, request, fixed, made, ending, done}
 
 abbrev pub space : List ℕ
 space = codes " "
@@ -38,6 +38,7 @@ step_text e = decimal e.hart ++ space ++ hex e.pc ++ space ++ hex e.pa ++ space 
 -- a line up to its newline
 abbrev pub line_body : Line → List ℕ
 line_body (request hart k kind) = codes "q " ++ decimal hart ++ space ++ decimal k ++ space ++ kind_text kind
+line_body (fixed hart register value) = codes "x " ++ decimal hart ++ space ++ decimal register ++ space ++ hex value
 line_body (made e) = codes "s " ++ step_text e
 line_body (ending e) = codes "e " ++ step_text e
 line_body (done hart k) = codes "d " ++ decimal hart ++ space ++ decimal k

@@ -71,6 +71,7 @@ impl fmt::Display for Line {
     fn fmt<W: fmt::Write>(&self, f: &mut fmt::Formatter<W>) -> fmt::Result {
         match *self {
             Line::Q { hart, k, kind } => write!(f, "q {hart} {k} {kind}"),
+            Line::X { hart, reg, value } => write!(f, "x {hart} {reg} {value:x}"),
             Line::S(step) => write!(f, "s {step}"),
             Line::E(step) => write!(f, "e {step}"),
             Line::D { hart, k } => write!(f, "d {hart} {k}"),

@@ -22,6 +22,8 @@ pub struct StepLine {
 pub enum Line {
     /// Request `k` of the hart begins.
     Q { hart: u8, k: u32, kind: Kind },
+    /// The register, x1 to x31, starts with this value: no step before has read or written it.
+    X { hart: u8, reg: u32, value: u64 },
     /// The hart steps a word that its request has just made.
     S(StepLine),
     /// The hart steps its last word, and is finished.

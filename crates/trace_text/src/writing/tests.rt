@@ -41,6 +41,29 @@ fn writes_a_trace(rt: HostRuntime) -> Result<(), Fail> {
 }
 
 #[test]
+fn writes_starting_values(rt: HostRuntime) -> Result<(), Fail> {
+    let lines = [
+        Line::X {
+            hart: 0,
+            reg: 1,
+            value: 0,
+        },
+        Line::X {
+            hart: 12,
+            reg: 31,
+            value: 0xABCD_EF01_2345_6789,
+        },
+    ];
+    let mut text = Vec::new(rt.alloc());
+    write_trace(16, &lines, &mut text)?;
+    assert_eq!(rt;
+        text.as_slice(),
+        "trace 1 16\nx 0 1 0\nx 12 31 abcdef0123456789\n".as_bytes()
+    );
+    Ok(())
+}
+
+#[test]
 fn writes_large_values_in_lower_case(rt: HostRuntime) -> Result<(), Fail> {
     let step = StepLine {
         hart: 255,

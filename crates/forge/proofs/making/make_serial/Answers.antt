@@ -15,17 +15,18 @@ pub returns : goal.returns
 returns c =
     let work = work_of c.args.job.now in
     let run = c.in_ok-run.run' in
+    let merged = c.in_ok-run.ensures.merged c.args.seed c.in_ok-log.ensures in
     record {
       run = (
         run_lines run,
         run_of work [] c.args.seed _ _ _ (run_lines run) c.requires.rules.one_hart
             (c.in_ok-write_trace.ensures.text ∙ ap (λ bs. bs ++ trace_text 1 (lines_seen c.lines.result.now)) c.new-trace.ensures.items ∙ ap (λ ls. trace_text 1 (lines_seen ls)) c.lines.ensures)
-            (c.in_ok-write_order.ensures.text ∙ ap (λ bs. bs ++ order_text 1 c.order.result.now) c.new-order.ensures.items ∙ ap (order_text 1) c.order.ensures ∙ ap (order_text 1) c.in_ok-run.ensures.merged.order)
+            (c.in_ok-write_order.ensures.text ∙ ap (λ bs. bs ++ order_text 1 c.order.result.now) c.new-order.ensures.items ∙ ap (order_text 1) c.order.ensures ∙ ap (order_text 1) merged.order)
             (λ a. ap (λ f. load f a) (c.in_ok-write_elf.ensures.file ∙ ap (λ bs. bs ++ elf_of (stretches c.as_slice.result.now)) c.new-elf.ensures.items)
             ∙ c.in_ok-write_elf.ensures.loaded a
             ∙ ap (λ ss. Some (memory_of (stretches ss) a)) c.as_slice.ensures.value
-            ∙ ap Some (c.in_ok-segments.ensures.image work c.requires.rules.one_hart c.in_ok-run.ensures.merged a))
-            c.in_ok-run.ensures.justified (c.in_ok-run.ensures.answers [] c.args.seed),
+            ∙ ap Some (c.in_ok-segments.ensures.image work c.args.seed c.requires.rules.one_hart merged a))
+            c.in_ok-run.ensures.justified c.in_ok-run.ensures.fixed (c.in_ok-run.ensures.answers [] c.args.seed c.in_ok-log.ensures),
         subst (λ n. IsCountOf c.counts_of-counts.result n (run_lines run)) (sym c.requires.rules.one_hart)
             (subst (λ ls. IsCountOf c.counts_of-counts.result 1 (lines_seen ls)) c.lines-2.ensures c.counts_of-counts.ensures),
       );

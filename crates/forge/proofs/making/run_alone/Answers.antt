@@ -5,5 +5,6 @@ use Rattle.hart_task.specs.Task.{IsLogOf}
 use Rattle.forge.proofs.making.run_alone.Goals as goal
 
 pub returns : goal.returns
-returns c = subst (λ h. IsLogOf (work_of c.args.job.now) h c.into_log.result) (c.in_ok-turn.ensures.number ∙ c.turns.invariant.number)
-    (c.into_log.ensures (work_of c.args.job.now) c.requires.rules c.in_ok-turn.ensures.task)
+returns c = subst (λ h. IsLogOf (work_of c.args.job.now) c.args.seed h c.into_log.result) (c.in_ok-turn.ensures.number ∙ c.turns.invariant.number)
+    (subst (λ s. IsLogOf (work_of c.args.job.now) s c.turn.new.self.hart.number c.into_log.result) (c.in_ok-turn.ensures.seed ∙ c.turns.invariant.seed)
+    (c.into_log.ensures.run (work_of c.args.job.now) c.requires.rules c.in_ok-turn.ensures.task))

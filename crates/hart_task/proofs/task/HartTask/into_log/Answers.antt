@@ -2,5 +2,5 @@
 use Rattle.hart_task.proofs.Standing.{log_of}
 use Rattle.hart_task.proofs.task.HartTask.into_log.Goals as goal
 
-pub returns : goal.returns
-returns c = λ work rules task. log_of work c.args.self rules task c.requires
+pub returns-clause-run : goal.returns-clause-run
+returns-clause-run c = λ work rules task. log_of work c.args.self rules task c.requires
