@@ -7,7 +7,7 @@ use Rattle.hart_task.specs.Bus.{word_seen}
 use Rattle.std.specs.Prelude.{IsTrue, IsSome, is_none}
 use Rattle.rv_fields.specs.declared.row_table.Ins.TheVariants.{Addi, Add}
 use Rattle.rv_fields.specs.Attempt.{◌>>=◌}
-use Rattle.rv_fields.specs.Decode.{Decoded, decoded}
+use Rattle.rv_fields.specs.Decode.{Decoded, decoded, ins_at}
 use Rattle.rv_fields.specs.Memory.{Seen, told, in_ram}
 use Rattle.rv_fields.specs.Step.{Hart, Effect, outcome, Retired, Stepped, behind, write_of, retired, step, with_write}
 use Rattle.region_plan.specs.declared.request.Request.{Request}
@@ -151,7 +151,7 @@ end_effect h pc = record { hart = h; pc = pc; pa = pc; word = 0x6f; rd = None }
 
 pub end_retires : (h pc : ℕ) (registers : ℕ → Option ℕ) → pc % 4 ≡ 0 → pc < 2 ^ 64 → registers 0 ≡ Some 0
     → retired h pc pc 0x6f registers ≡ Some (record { effect = end_effect h pc; next = pc })
-unfolding retired
+unfolding retired ins_at
 end_retires h pc registers aligned small zero =
     let same : (pc + 0) % 2 ^ 64 ≡ pc = omega arith in
     let test : eqb ((pc + 0) % 2 ^ 64 % 4) 0 ≡ true = eq-eqb ((pc + 0) % 2 ^ 64 % 4) 0 (ap (λ n. n % 4) same ∙ aligned) in

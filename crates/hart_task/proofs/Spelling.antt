@@ -10,7 +10,7 @@ use Rattle.region_plan.specs.declared.request.Request.{Request}
 use Rattle.region_plan.specs.declared.request.Request.TheVariants as requests
 use Rattle.region_plan.specs.Rules.{IsMakeable}
 use Rattle.rv_encode.specs.declared.field.OutOfField.{OutOfField}
-use Rattle.rv_encode.specs.Fitting.{is_zero, misfit}
+use Rattle.rv_encode.specs.Fitting.{is_below, misfit}
 use Rattle.hart_task.specs.Machine.{asked}
 
 asked_fits : (r : Request) → IsMakeable r → misfit (form_of (asked r).ins) (asked r).ops ≡ None
@@ -18,7 +18,7 @@ asked_fits (requests.Ins ins pins) (inl addi) =
     ap (λ i. misfit (form_of i) (asked (requests.Ins ins pins)).ops) addi.0
     ∙ rw (lt-ltb _ _ addi.1.rd, lt-ltb _ _ addi.1.rs1, eq-eqb _ _ addi.1.rs2, addi.1.imm) refl
 asked_fits (requests.Ins ins pins) (inr add) =
-    let zero : is_zero pins.imm ≡ is_zero (pos 0) = ap is_zero add.1.imm in
+    let zero : is_below 1 pins.imm ≡ is_below 1 (pos 0) = ap (is_below 1) add.1.imm in
     ap (λ i. misfit (form_of i) (asked (requests.Ins ins pins)).ops) add.0
     ∙ rw (lt-ltb _ _ add.1.rd, lt-ltb _ _ add.1.rs1, lt-ltb _ _ add.1.rs2, zero) refl
 

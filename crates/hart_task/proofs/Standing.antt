@@ -4,7 +4,7 @@ use Rattle.std.specs.Prelude.{zero, suc, slice_index, slice_get, IsSome, pos, �
 use Rattle.std.proofs.lemmas.Bool.{ne_eqb, eq-eqb, cases_eq}
 use Rattle.std.specs.Option.{option_map_or, option_or}
 use Rattle.std.specs.List.{AllByRecursion}
-use Rattle.rv_fields.specs.Decode.{Decoded, decoded, sources}
+use Rattle.rv_fields.specs.Decode.{Decoded, decoded, ins_at, sources}
 use Rattle.rv_fields.specs.Step.{Effect, Retired, retired, updated, write_of}
 use Rattle.rv_fields.specs.declared.row_table.Ins.TheVariants.{Jal}
 use Rattle.region_plan.specs.declared.request.Request.{Request}
@@ -15,7 +15,7 @@ use Rattle.world_face.specs.Runs.{Runs}
 use Rattle.boot_words.specs.Layout.{code_start, code_address}
 use Rattle.hart_task.specs.declared.task.Phase.TheVariants as tasks
 use Rattle.region_plan.specs.declared.request.Request.TheVariants as requests
-use Rattle.hart_task.specs.Answering.{kind_of, stream_of, Meets}
+use Rattle.hart_task.specs.Answering.{kind_of, stream_of, end_word, Meets}
 use Rattle.hart_task.proofs.Retiring.{retired_alike, rd_is_write, extends_write}
 use Rattle.hart_task.specs.Machine.{HartState, between, begun, stepped, finished, start, legal, after, with_begun, asked, untouched_of, Begins, Reads, Fixes, Makes, Ends, StepsAt, step_of, next_of, with_present, moved}
 use Rattle.std.specs.Prelude.{Result, Ok, Err, OnOk, OnErr}
@@ -430,6 +430,10 @@ stands_made work old new s r one room makeable st is_begun m =
 abbrev end_jump : Decoded
 end_jump = record { ins = Jal; ops = record { rd = 0; rs1 = 0; rs2 = 0; imm = pos 0; aqrl = 0 } }
 
+end_decoded : decoded end_word ≡ Some end_jump
+unfolding ins_at
+end_decoded = refl
+
 drop-nil : (i : ℕ) → drop {A = Request} i [] ≡ []
 drop-nil zero = refl
 drop-nil (suc i) = refl
@@ -451,7 +455,7 @@ stands_ended work old new s st is_between past m =
     let begun_many : old.done ≤ length (template_of work old.number) = subst (λ p. begun_count p old.done ≤ length (template_of work old.number)) is_between st.many in
     let place : s.pc ≡ code_address s.hart (length s.words) =
     st.pc ∙ st.place ∙ ap (λ n. code_address old.number n) (sym count) ∙ ap (λ n. code_address n (length s.words)) (sym st.hart) in
-    let ends_word : decoded e.word ≡ Some end_jump = ap decoded m.word in
+    let ends_word : decoded e.word ≡ Some end_jump = ap decoded m.word ∙ end_decoded in
     let at : (StepsAt s e) × (next_of s e.word ≡ new.pc) =
     steps_at old new s e end_jump 0 0 st.hart st.pc st.registers st.held ends_word st.zero st.zero place m.steps in
     let seed : ℕ = old.draws.seed in

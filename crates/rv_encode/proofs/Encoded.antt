@@ -43,7 +43,7 @@ listed Rs2 = (2, refl)
 listed Imm = (3, refl)
 listed AqRl = (4, refl)
 
-all_fit : (form : Form) (ops : Ops) → misfit form ops ≡ None → (f : Field) → fits form ops f ≡ true
+pub all_fit : (form : Form) (ops : Ops) → misfit form ops ≡ None → (f : Field) → fits form ops f ≡ true
 all_fit form ops e f =
     not-false _ (not_found (λ f. not (fits form ops f)) all_fields (listed f).0 f (unmapped _ _ e) (listed f).1)
 

@@ -1,12 +1,12 @@
-ghost use Rattle.std.specs.Prelude.{◌≡◌, ℕ, ◌<◌, ◌^◌, bit_and, Some, None, IfOk, IfErr, OnOk, Ok};
-ghost use Rattle.rv_fields.specs.RowTable.{form_of, mask_of};
+ghost use Rattle.std.specs.Prelude.{◌≡◌, ℕ, ◌<◌, ◌^◌, Some, None, IfOk, IfErr, OnOk, Ok};
+ghost use Rattle.rv_fields.specs.RowTable.{form_of};
 ghost use Rattle.rv_fields.specs.Decode.{Decoded, decoded};
 ghost use Rattle.rv_encode.specs.Fitting.{misfit};
-ghost use Rattle.rv_encode.specs.Packing.{packed};
 
 use crate::field::OutOfField;
 use crate::fitting::misfit;
-use rv_fields::{Form, Ins, Ops, put_imm_i, put_imm_j};
+use crate::placing::packed;
+use rv_fields::{Ins, Ops};
 use rv_table::row;
 
 /// The word that spells the instruction with these operands.
@@ -24,21 +24,5 @@ pub fn encode(ins: Ins, ops: &Ops) -> Result<u32, OutOfField>
     match misfit(row.form, ops) {
         Some(misfit) => Err(misfit),
         None => Ok(packed(row.form, row.value, ops)),
-    }
-}
-
-/// The word of a row's value and of operands that fit the row's form.
-#[tactic(auto, using(std::proofs::lemmas::Nat::and_le_r))]
-fn packed(form: Form, value: u32, ops: &Ops) -> u32
-    requires value { bit_and value (mask_of form) ≡ value }
-    requires fits { misfit form ops.now ≡ None }
-    ensures { result ≡ packed form value ops.now }
-{
-    let rd = u32::from(ops.rd) << 7;
-    let rs1 = u32::from(ops.rs1) << 15;
-    match form {
-        Form::J => put_imm_j(value + rd, ops.imm),
-        Form::I => put_imm_i(value + rd + rs1, ops.imm),
-        Form::R => value + rd + rs1 + (u32::from(ops.rs2) << 20),
     }
 }

@@ -1,7 +1,14 @@
 pub mod Attempt
 pub mod Immediate
+pub mod Name
 pub mod RowTable
 pub mod Decode
+pub mod Meaning
+pub mod Field
+pub mod Status
+pub mod Csr
+pub mod CsrFile
+pub mod Trap
 pub mod Memory
 pub mod Step
 pub mod Play

@@ -1,11 +1,12 @@
 -- One step of a hart by the tables of the RISC-V manuals.
 use Rattle.std.specs.Prelude.{ℕ, zero, suc, ◌+◌, ◌%◌, ◌^◌, pos, ◌+ℤ◌, ◌==◌, Option, Some, None, if◌then◌else◌}
 use Rattle.rv_fields.specs.declared.row_table.Ins.{Ins}
-use Rattle.rv_fields.specs.declared.row_table.Ins.TheVariants.{Jal, Addi, Add}
+use Rattle.rv_fields.specs.declared.row_table.Ins.TheVariants.{Jal}
 use Rattle.rv_fields.specs.declared.row_table.Ops.{Ops}
 use Rattle.rv_fields.specs.Attempt.{◌>>=◌}
 use Rattle.rv_fields.specs.Immediate.{wrapped}
 use Rattle.rv_fields.specs.Decode.{decoded}
+use Rattle.rv_fields.specs.Meaning.{is_alu, computed, is_branch, is_taken}
 use Rattle.rv_fields.specs.Memory.{Seen, told}
 
 -- A hart: its number, the address of its next instruction, and its registers x0 to x31, of which x0 is 0.
@@ -36,11 +37,18 @@ behind pc = (pc + 4) % 2 ^ 64
 abbrev pub jump : ℕ → ℕ → Option Outcome
 jump value target = if target % 4 == 0 then Some (record { value = value; next = target }) else None
 
--- The meaning of an instruction at pc whose rs1 holds a and whose rs2 holds b: equations modulo 2^64.
+-- a branch goes on at its target where it is taken, and else behind itself; it writes no register
+abbrev pub branch : Ins → Ops → ℕ → ℕ → ℕ → Option Outcome
+branch ins ops pc rs1 rs2 =
+    if is_taken ins rs1 rs2 then jump 0 (wrapped (pos pc +ℤ ops.imm)) else Some (record { value = 0; next = behind pc })
+
+-- The meaning of an instruction at pc, by the values of its source registers. None for the rows that aren't defined yet:
+-- those that jump to a register, read or write memory or a CSR, or change the mode.
 abbrev pub outcome : Ins → Ops → ℕ → ℕ → ℕ → Option Outcome
-outcome Jal ops pc a b = jump (behind pc) (wrapped (pos pc +ℤ ops.imm))
-outcome Addi ops pc a b = Some (record { value = wrapped (pos a +ℤ ops.imm); next = behind pc })
-outcome Add ops pc a b = Some (record { value = (a + b) % 2 ^ 64; next = behind pc })
+outcome Jal ops pc rs1 rs2 = jump (behind pc) (wrapped (pos pc +ℤ ops.imm))
+outcome ins ops pc rs1 rs2 =
+    if is_alu ins then Some (record { value = computed ins ops pc rs1 rs2; next = behind pc })
+    else (if is_branch ins then branch ins ops pc rs1 rs2 else None)
 
 -- the register that is written, and its value; x0 never is
 abbrev pub write_of : ℕ → ℕ → Option (ℕ × ℕ)

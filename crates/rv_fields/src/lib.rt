@@ -1,15 +1,24 @@
 //! The fields of RISC-V instruction words, and the definitions of the machine that all other crates cite.
 #![tactic(auto)]
 
+mod csr;
+mod form;
 mod immediate;
 mod memory;
 mod mode;
+mod name;
+mod pieces;
 mod row_table;
 mod word;
 
-pub use immediate::{fits_i, fits_j, imm_i, imm_j, put_imm_i, put_imm_j};
+pub use csr::{CSRS, Csr, CsrRow, csr_named, csr_number, csr_of, csr_row};
+pub use immediate::{
+    fits_b, fits_i, fits_j, fits_u, imm_b, imm_i, imm_j, imm_s, imm_u, put_imm_b, put_imm_i,
+    put_imm_j, put_imm_s, put_imm_u,
+};
 pub use memory::NoMemory;
 pub use mode::Mode;
+pub use name::{Name, name_of};
 pub use row_table::{Form, Ins, Ops};
 pub use word::bits_of;
 

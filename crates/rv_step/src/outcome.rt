@@ -1,11 +1,14 @@
 //! What instructions compute.
 
-ghost use Rattle.std.specs.Prelude.{◌≡◌, pos, ◌+ℤ◌, option_map};
+ghost use Rattle.std.specs.Prelude.{◌≡◌, pos, ◌+ℤ◌, IsTrue, option_map};
 ghost use Rattle.rv_fields.specs.Immediate.{wrapped};
-ghost use Rattle.rv_fields.specs.Step.{outcome, jump, behind};
+ghost use Rattle.rv_fields.specs.RowTable.{form_of};
+ghost use Rattle.rv_fields.specs.Meaning.{is_alu, is_branch, computed, first_operand, second_operand};
+ghost use Rattle.rv_fields.specs.Step.{outcome, branch, jump, behind};
 ghost use Rattle.rv_step.specs.Views.{outcome_seen};
 
-use rv_table::{Ins, Ops};
+use rv_alu::{alu, is_alu, is_branch, taken};
+use rv_table::{Form, Ins, Ops};
 
 /// What an instruction reads: its address, and the values of its source registers.
 #[derive(Clone, Copy)]
@@ -22,21 +25,68 @@ pub struct Outcome {
     pub next: u64,
 }
 
-/// What the instruction computes. None where it doesn't retire.
-pub fn outcome_of(ins: Ins, ops: &Ops, inputs: Inputs) -> Option<Outcome>
+/// What the instruction computes, whose row has the form. None where it doesn't retire, or has no meaning yet.
+pub fn outcome_of(ins: Ins, form: Form, ops: &Ops, inputs: Inputs) -> Option<Outcome>
+    requires { form ≡ form_of ins }
     ensures { option_map outcome_seen result ≡ outcome ins ops.now inputs.pc inputs.rs1 inputs.rs2 }
 {
+    if is_alu(ins) {
+        Some(Outcome {
+            value: computed(ins, form, ops, inputs),
+            next: behind(inputs.pc),
+        })
+    } else if is_branch(ins) {
+        branch(ins, ops, inputs)
+    } else if ins == Ins::Jal {
+        jump(behind(inputs.pc), moved(inputs.pc, ops.imm))
+    } else {
+        None
+    }
+}
+
+/// What a row that computes gives to its rd.
+fn computed(ins: Ins, form: Form, ops: &Ops, inputs: Inputs) -> u64
+    requires form { form ≡ form_of ins }
+    requires alu { IsTrue (is_alu ins) }
+    ensures { result ≡ computed ins ops.now inputs.pc inputs.rs1 inputs.rs2 }
+{
+    let first = first_operand(form, inputs.pc, inputs.rs1);
+    alu(ins, first, second_operand(form, ops, inputs.rs2))
+}
+
+/// The first operand of a row of the form that computes.
+fn first_operand(form: Form, pc: u64, rs1: u64) -> u64
+    ensures { result ≡ first_operand form pc rs1 }
+{
+    match form {
+        Form::U => pc,
+        _ => rs1,
+    }
+}
+
+/// The second operand of a row of the form that computes.
+fn second_operand(form: Form, ops: &Ops, rs2: u64) -> u64
+    ensures { result ≡ second_operand form ops.now rs2 }
+{
+    match form {
+        Form::R => rs2,
+        _ => ops.imm.cast_unsigned(),
+    }
+}
+
+/// Where a branch goes on. None where it is taken to a target that is no multiple of 4.
+fn branch(ins: Ins, ops: &Ops, inputs: Inputs) -> Option<Outcome>
+    requires { IsTrue (is_branch ins) }
+    ensures { option_map outcome_seen result ≡ branch ins ops.now inputs.pc inputs.rs1 inputs.rs2 }
+{
     let Inputs { pc, rs1, rs2 } = inputs;
-    match ins {
-        Ins::Jal => jump(behind(pc), moved(pc, ops.imm)),
-        Ins::Addi => Some(Outcome {
-            value: moved(rs1, ops.imm),
+    if taken(ins, rs1, rs2) {
+        jump(0, moved(pc, ops.imm))
+    } else {
+        Some(Outcome {
+            value: 0,
             next: behind(pc),
-        }),
-        Ins::Add => Some(Outcome {
-            value: rs1.wrapping_add(rs2),
-            next: behind(pc),
-        }),
+        })
     }
 }
 

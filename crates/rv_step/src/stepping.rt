@@ -5,7 +5,7 @@ ghost use Rattle.rv_step.specs.Views.{hart_seen, effect_seen, retired_seen};
 use crate::bus::Bus;
 use crate::hart::{Hart, Stepped};
 use crate::outcome::{Inputs, Outcome, outcome_of};
-use rv_table::decode;
+use rv_table::{decode, row};
 
 /// An instruction that retires: what it does, and the address of the next one.
 #[derive(Clone, Copy)]
@@ -49,7 +49,7 @@ fn retire(hart: &Hart, word: u32) -> Option<Retired>
         rs1: hart.x[ops.rs1 as usize],
         rs2: hart.x[ops.rs2 as usize],
     };
-    let Outcome { value, next } = outcome_of(ins, &ops, inputs)?;
+    let Outcome { value, next } = outcome_of(ins, row(ins).form, &ops, inputs)?;
     let stepped = Stepped {
         pc: hart.pc,
         pa: hart.pc,

@@ -28,7 +28,7 @@ const START: Hart = Hart {
 };
 
 #[test]
-#[tactic(auto, unfolding(rv_fields::specs::Step::step, rv_fields::specs::Step::retired))]
+#[tactic(auto, unfolding(rv_fields::specs::Step::step, rv_fields::specs::Step::retired, rv_fields::specs::Decode::ins_at))]
 fn addi_writes_its_register(rt: HostRuntime) {
     let bus = Placed {
         at: 0x8400_0000,
@@ -43,7 +43,7 @@ fn addi_writes_its_register(rt: HostRuntime) {
 }
 
 #[test]
-#[tactic(auto, unfolding(rv_fields::specs::Step::step, rv_fields::specs::Step::retired))]
+#[tactic(auto, unfolding(rv_fields::specs::Step::step, rv_fields::specs::Step::retired, rv_fields::specs::Decode::ins_at))]
 fn add_wraps_around(rt: HostRuntime) {
     let bus = Placed {
         at: 0x8400_0000,
@@ -58,7 +58,7 @@ fn add_wraps_around(rt: HostRuntime) {
 }
 
 #[test]
-#[tactic(auto, unfolding(rv_fields::specs::Step::step, rv_fields::specs::Step::retired))]
+#[tactic(auto, unfolding(rv_fields::specs::Step::step, rv_fields::specs::Step::retired, rv_fields::specs::Decode::ins_at))]
 fn a_jump_to_itself_stays(rt: HostRuntime) {
     let bus = Placed {
         at: 0x8400_0004,

@@ -1,13 +1,13 @@
-ghost use Rattle.std.specs.Prelude.{◌≡◌, ◌↔◌, ◌<◌, Some, IfSome, option_map, find};
+ghost use Rattle.std.specs.Prelude.{◌≡◌, ◌↔◌, ◌<◌, Some, IfSome, option_map, find, if◌then◌else◌};
 ghost use Rattle.rv_fields.specs.declared.row_table.Ins.{Ins};
 ghost use Rattle.rv_fields.specs.RowTable.{Agrees};
-ghost use Rattle.rv_fields.specs.Decode.{Decoded, decoded, ins_at, agrees, fields_of, rd_of, rs1_of, rs2_of};
+ghost use Rattle.rv_fields.specs.Decode.{Decoded, decoded, ins_at, fields_of, imm_of};
+ghost use Rattle.rv_fields.specs.Immediate.{bits_of};
+ghost use Rattle.rv_table.specs.Listing.{listed, defined, is_of};
 
-use crate::rows::row;
-use rv_fields::{Form, Ins, Ops, bits_of, imm_i, imm_j};
-
-/// The instructions in the table's order.
-const TABLE: [Ins; 3] = [Ins::Jal, Ins::Addi, Ins::Add];
+use crate::rows::mask;
+use crate::table::{Entry, entries};
+use rv_fields::{Form, Ins, Ops, bits_of, imm_b, imm_i, imm_j, imm_s, imm_u};
 
 /// The instruction and the operands that the word spells.
 pub fn decode(word: u32) -> Option<(Ins, Ops)>
@@ -15,79 +15,67 @@ pub fn decode(word: u32) -> Option<(Ins, Ops)>
     ensures row { (i : Ins) → (option_map (λ p. p.0) result ≡ Some i) ↔ Agrees word i }
     ensures registers { IfSome result (λ p. (p.1.rd < 32) × (p.1.rs1 < 32) × (p.1.rs2 < 32)) }
 {
-    let ins = ins_at(word)?;
-    Some((ins, operands(row(ins).form, word)))
+    let Entry(ins, form, _, _) = entry_of(word)?;
+    Some((ins, operands(form, word)))
 }
 
-/// The instruction of the one row that agrees with the word.
-#[tactic(auto, using(rv_fields::proofs::OneRow::one_row))]
-fn ins_at(word: u32) -> Option<Ins>
-    ensures value { result ≡ ins_at word }
-    ensures row { (i : Ins) → (result ≡ Some i) ↔ Agrees word i }
+/// The line of the table whose row agrees with the word.
+fn entry_of(word: u32) -> Option<Entry>
+    ensures { option_map listed result ≡ option_map defined (ins_at word) }
 {
-    first_in(&TABLE, word)
+    first_of(entries(), word)
 }
 
-/// The first instruction of the table whose row agrees with the word.
-fn first_in(table: &[Ins], word: u32) -> Option<Ins>
-    ensures { result ≡ find (agrees word) table.now }
+/// The first line of the table whose row agrees with the word.
+fn first_of(table: &[Entry], word: u32) -> Option<Entry>
+    ensures { result ≡ find (λ entry. is_of word (listed entry)) table.now }
 {
-    table.iter().copied().find(|ins| agrees(word, *ins))
+    table
+        .iter()
+        .copied()
+        .find(|entry| word & mask(entry.1) == entry.3)
 }
 
-fn agrees(word: u32, ins: Ins) -> bool
-    ensures { result ≡ agrees word ins }
-{
-    let row = row(ins);
-    word & row.mask == row.value
-}
-
+/// The fields of the form in the word; those that it lacks are 0.
 fn operands(form: Form, word: u32) -> Ops
     ensures fields { result ≡ fields_of form word }
     ensures registers { (result.rd < 32) × (result.rs1 < 32) × (result.rs2 < 32) }
 {
-    let none = Ops {
-        rd: 0,
-        rs1: 0,
-        rs2: 0,
-        imm: 0,
-        aqrl: 0,
-    };
-    match form {
-        Form::J => Ops {
-            rd: rd(word),
-            imm: imm_j(word),
-            ..none
-        },
-        Form::I => Ops {
-            rd: rd(word),
-            rs1: rs1(word),
-            imm: imm_i(word),
-            ..none
-        },
-        Form::R => Ops {
-            rd: rd(word),
-            rs1: rs1(word),
-            rs2: rs2(word),
-            ..none
+    Ops {
+        rd: register(form.has_rd(), word, 7),
+        rs1: register(form.has_rs1(), word, 15),
+        rs2: register(form.has_rs2(), word, 20),
+        imm: immediate(form, word),
+        aqrl: if form.has_aqrl() {
+            bits_of(word, 25, 2) as u8
+        } else {
+            0
         },
     }
 }
 
-fn rd(word: u32) -> u8
-    ensures { result ≡ rd_of word }
+/// The number in the five bits from `low` on; 0 where the form lacks the field.
+fn register(has: bool, word: u32, low: u32) -> u8
+    requires { low < 32 }
+    ensures value { result ≡ (if has then bits_of word low 5 else 0) }
+    ensures register { result < 32 }
 {
-    bits_of(word, 7, 5) as u8
+    if has { bits_of(word, low, 5) as u8 } else { 0 }
 }
 
-fn rs1(word: u32) -> u8
-    ensures { result ≡ rs1_of word }
+/// The form's immediate in the word.
+fn immediate(form: Form, word: u32) -> i64
+    ensures { result ≡ imm_of form word }
 {
-    bits_of(word, 15, 5) as u8
-}
-
-fn rs2(word: u32) -> u8
-    ensures { result ≡ rs2_of word }
-{
-    bits_of(word, 20, 5) as u8
+    match form {
+        Form::U => imm_u(word),
+        Form::J => imm_j(word),
+        Form::I => imm_i(word),
+        Form::B => imm_b(word),
+        Form::S => imm_s(word),
+        Form::H6 => i64::from(bits_of(word, 20, 6)),
+        Form::H5 => i64::from(bits_of(word, 20, 5)),
+        Form::C | Form::K => i64::from(bits_of(word, 20, 12)),
+        Form::R | Form::A | Form::L | Form::V | Form::N => 0,
+    }
 }

@@ -2,10 +2,12 @@
 #![tactic(auto)]
 
 mod decoding;
+mod naming;
 mod rows;
 mod table;
 
 pub use decoding::decode;
+pub use naming::by_name;
 pub use rows::row;
 pub use rv_fields::{Form, Ins, Ops};
 pub use table::Row;

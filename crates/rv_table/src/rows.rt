@@ -1,7 +1,9 @@
-ghost use Rattle.std.specs.Prelude.{◌≡◌};
+ghost use Rattle.std.specs.Prelude.{◌≡◌, ◌<◌, Some, length};
+ghost use Rattle.std.specs.List.{slice_get};
 ghost use Rattle.rv_fields.specs.RowTable.{name_of, form_of, mask_of, value_of};
+ghost use Rattle.rv_table.specs.Listing.{listed, defined};
 
-use crate::table::Row;
+use crate::table::{Entry, Row, entries};
 use rv_fields::{Form, Ins};
 
 /// The instruction's row.
@@ -11,19 +13,7 @@ pub fn row(ins: Ins) -> Row
     ensures value { result.value ≡ value_of ins }
     ensures form { result.form ≡ form_of ins }
 {
-    match ins {
-        Ins::Jal => row_of(Form::J, "jal", 0x6f),
-        Ins::Addi => row_of(Form::I, "addi", 0x13),
-        Ins::Add => row_of(Form::R, "add", 0x33),
-    }
-}
-
-fn row_of(form: Form, name: &'static str, value: u32) -> Row
-    ensures name { result.name.now ≡ name.now }
-    ensures mask { result.mask ≡ mask_of form }
-    ensures value { result.value ≡ value }
-    ensures form { result.form ≡ form }
-{
+    let Entry(_, form, name, value) = line_of(ins);
     Row {
         name,
         mask: mask(form),
@@ -32,13 +22,32 @@ fn row_of(form: Form, name: &'static str, value: u32) -> Row
     }
 }
 
+/// The instruction's line of the table.
+fn line_of(ins: Ins) -> Entry
+    ensures { listed result ≡ defined ins }
+{
+    entry_at(entries(), ins as usize)
+}
+
+fn entry_at(table: &[Entry], place: usize) -> Entry
+    requires { place < length table.now }
+    ensures { slice_get table.now place ≡ Some result }
+{
+    table[place]
+}
+
 /// The bits that tell the rows of the form from others.
-fn mask(form: Form) -> u32
+pub fn mask(form: Form) -> u32
     ensures { result ≡ mask_of form }
 {
     match form {
-        Form::J => 0x7f,
-        Form::I => 0x707f,
-        Form::R => 0xfe00_707f,
+        Form::U | Form::J => 0x0000_007f,
+        Form::I | Form::B | Form::S | Form::C | Form::K => 0x0000_707f,
+        Form::H6 => 0xfc00_707f,
+        Form::H5 | Form::R => 0xfe00_707f,
+        Form::A => 0xf800_707f,
+        Form::L => 0xf9f0_707f,
+        Form::V => 0xfe00_7fff,
+        Form::N => 0xffff_ffff,
     }
 }
