@@ -1,4 +1,8 @@
 pub mod Ending
+pub mod Examples
+pub mod Leaving
+pub mod Reading
+pub mod Refusing
 pub mod Digits
 pub mod Names
 pub mod Generating

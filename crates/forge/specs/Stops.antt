@@ -1,5 +1,6 @@
 -- What the steps of a command say: what they read, made and wrote, and where one of them stopped it.
-use Rattle.std.specs.Prelude.{ℕ, ◌≡◌, ◌≤◌, ◌⊎◌, List, [], ◌++◌, length, codes, Option, Some, None, IsSomeAnd, MatchOption, Result, MatchResult}
+use Rattle.std.specs.Prelude.{ℕ, ◌≡◌, ◌≤◌, ◌⊎◌, List, [], ◌++◌, length, codes, Some, None, IsSomeAnd, MatchOption, Result, MatchResult, slice_get}
+use Rattle.std.specs.List.{Contains}
 use Rattle.std.specs.Fmt.{decimal}
 use Rattle.choice_tree.specs.Forest.{Forest, forest_in}
 use Rattle.region_plan.specs.Work.{Work, hart_count}
@@ -13,7 +14,7 @@ use Rattle.forge.specs.declared.stop.Stop.{Stop}
 use Rattle.forge.specs.declared.stop.Stop.TheVariants.{Usage, Unread, Unwritten, NotBuilt, Memory}
 use Rattle.forge.specs.Words.{Command}
 use Rattle.forge.specs.Generated.{IsRunOf, IsCountOf}
-use Rattle.forge.specs.Ends.{usage, refusal, most_bytes, Spells, IsRefused, IsRead, IsWritten, KeepsOthers, Ends}
+use Rattle.forge.specs.Ends.{usage, refusal, most_bytes, Spells, IsRefused, Output, inputs, outputs, LeftBy, ReadFails, Ends}
 
 -- the command that the words were parsed into
 abbrev pub command_seen : MakeSerial → Command
@@ -78,25 +79,31 @@ IsStoppedWrite name old new Memory = Unit {0}
 -- the command stopped before its first write
 abbrev pub StopsEarly : Command → State → State → Stop → Type 0
 StopsEarly c old new Usage = ⊥
-StopsEarly c old new (Unread name) = Rose old.read_faults new.read_faults × IsRead c new.last × (new.last ≡ name.now)
+StopsEarly c old new (Unread name) = ReadFails c old new × (new.last ≡ name.now)
 StopsEarly c old new (Unwritten name) = ⊥
-StopsEarly c old new (NotBuilt name) = WhereTold old (λ before. IsRefused c before (refusal name.now))
+StopsEarly c old new (NotBuilt name) = Contains (inputs c) name.now × WhereTold old (λ before. IsRefused c before name.now)
 StopsEarly c old new Memory = Unit {0}
 
--- one of the command's writes stopped it
-abbrev pub StopsLate : Command → State → State → Stop → Type 0
-StopsLate c old new Usage = ⊥
-StopsLate c old new (Unread name) = ⊥
-StopsLate c old new (Unwritten name) = Rose old.write_faults new.write_faults × IsWritten c new.last × (new.last ≡ name.now)
-StopsLate c old new (NotBuilt name) = ⊥
-StopsLate c old new Memory = Unit {0}
+-- a store that tells goes on telling, and the fact holds of both; one that doesn't tell goes on so
+abbrev pub Becomes : State → State → (Held → Held → Type 0) → Type 0
+Becomes old new P = MatchOption old.holds (new.holds ≡ None) (λ before. IsSomeAnd new.holds (λ now. P before now))
+
+-- the files that were made, under the names of the command
+abbrev pub files_of : Command → Made → List Output
+files_of c made = outputs c made.elf.items made.order.items made.trace.items
+
+-- one of the writes stopped the command
+pub record StopsLate (c : Command) (made : Made) (old new : State) (stop : Stop) : Type 0 where
+  pub number : ℕ
+  pub at_hand : IsSomeAnd (slice_get (files_of c made) number) (λ file. IsStoppedWrite file.name old new stop)
+  pub left : Becomes old new (LeftBy (files_of c made) number)
 
 -- what was made for a command from the files that stood before
-pub record IsMadeFor (c : Command) (before : Held) (made : Made) : Type 0 where
+pub record IsMadeFor (c : Command) (old : State) (made : Made) : Type 0 where
   pub work : Work
   pub trees : Forest
-  pub job_read : Spells job_in before c.job work
-  pub trees_read : Spells forest_in before c.trees trees
+  pub job_read : WhereTold old (λ before. Spells job_in before c.job work)
+  pub trees_read : WhereTold old (λ before. Spells forest_in before c.trees trees)
   pub lines : List Line
   pub run : IsRunOf work trees c.seed made.elf.items made.order.items made.trace.items lines
   pub counts : IsCountOf made.counts (hart_count work) lines
@@ -105,12 +112,6 @@ pub record IsMadeFor (c : Command) (before : Held) (made : Made) : Type 0 where
 abbrev pub counts_body : Counts → List ℕ
 counts_body counts = codes "harts " ++ decimal counts.harts ++ codes " steps " ++ decimal counts.steps
     ++ codes " done " ++ decimal counts.done ++ codes " refused " ++ decimal counts.refused
-
--- the files of the command hold what was made
-pub record HoldsMade (c : Command) (made : Made) (now : Held) : Type 0 where
-  pub elf : now c.elf ≡ Some made.elf.items
-  pub order : now c.order ≡ Some made.order.items
-  pub trace : now c.trace ≡ Some made.trace.items
 
 -- the contents of both input files
 pub record HoldsInputs (c : Command) (job trees : List ℕ) (held : Held) : Type 0 where
@@ -135,10 +136,6 @@ IsStoppedForm c job trees (Unwritten name) = ⊥
 IsStoppedForm c job trees (NotBuilt name) = ((name.now ≡ c.job) × (job_in job ≡ None))
     ⊎ ((name.now ≡ c.trees) × ((work : Work) × (job_in job ≡ Some work)) × (forest_in trees ≡ None))
 IsStoppedForm c job trees Memory = Unit {0}
-
--- a store that tells goes on telling, and every name but those that the command writes holds what it held
-abbrev pub KeepsUnwritten : Command → Option Held → Option Held → Type 0
-KeepsUnwritten c old new = MatchOption old (new ≡ None) (λ before. IsSomeAnd new (KeepsOthers c before))
 
 -- how the words end where they ran to a result
 abbrev pub EndsBy : List (List ℕ) → State → State → Result (Unit {0}) Stop → List ℕ → Type 0

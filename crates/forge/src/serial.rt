@@ -1,6 +1,7 @@
-ghost use Rattle.std.specs.Prelude.{◌≡◌, ◌≤◌, List, ℕ, Some, IfOk, IfErr, OnOk};
+ghost use Rattle.std.specs.Prelude.{◌≡◌, List, ℕ, Some, IfOk, IfErr, OnOk};
 ghost use Rattle.forge.specs.Words.{command_of};
-ghost use Rattle.forge.specs.Stops.{command_seen, WhereTold, HoldsInputs, HoldsMade, IsMadeFrom, IsMadeFor, IsStoppedForm, StopsEarly, StopsLate, KeepsUnwritten, EndsBy};
+ghost use Rattle.forge.specs.Ends.{LeftBy};
+ghost use Rattle.forge.specs.Stops.{command_seen, files_of, WhereTold, Becomes, HoldsInputs, IsMadeFrom, IsMadeFor, IsStoppedForm, StopsEarly, StopsLate, EndsBy};
 
 use crate::command::MakeSerial;
 use crate::files::{read_input, write_output};
@@ -33,7 +34,7 @@ impl<'a> MakeSerial<'a> {
     fn make<S: Store>(&self, alloc: Global, store: &mut S) -> Result<Made, Stop<'a>>
         ensures held { (S.state store.new).holds ≡ (S.state store.old).holds }
         ensures writes { (S.state store.new).write_faults ≡ (S.state store.old).write_faults }
-        ensures made { IfOk result (λ made. WhereTold (S.state store.old) (λ before. IsMadeFor (command_seen self.now) before made)) }
+        ensures made { IfOk result (IsMadeFor (command_seen self.now) (S.state store.old)) }
         ensures stopped { IfErr result (StopsEarly (command_seen self.now) (S.state store.old) (S.state store.new)) }
     {
         let (job, trees) = self.read(alloc, store)?;
@@ -67,9 +68,8 @@ impl<'a> MakeSerial<'a> {
 
     /// Writes the three files.
     fn write<S: Store>(&self, store: &mut S, made: &Made) -> Result<(), Stop<'a>>
-        ensures keeps { KeepsUnwritten (command_seen self.now) (S.state store.old).holds (S.state store.new).holds }
-        ensures written { OnOk result (WhereTold (S.state store.new) (HoldsMade (command_seen self.now) made.now)) }
-        ensures stopped { IfErr result (StopsLate (command_seen self.now) (S.state store.old) (S.state store.new)) }
+        ensures written { OnOk result (Becomes (S.state store.old) (S.state store.new) (LeftBy (files_of (command_seen self.now) made.now) 3)) }
+        ensures stopped { IfErr result (StopsLate (command_seen self.now) made.now (S.state store.old) (S.state store.new)) }
     {
         write_output(store, self.elf, &made.elf)?;
         write_output(store, self.order, &made.order)?;

@@ -6,6 +6,8 @@ use std::process::Abort;
 use std::test::Fail;
 use store_face::MemStore;
 
+mod faults;
+
 const USAGE: &str =
     "usage: make|make-serial JOB TREES SEED ELF ORDER TRACE; replay ELF ORDER TRACE; big N JOB TREES; check JOB TREES\n";
 

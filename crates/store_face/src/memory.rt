@@ -62,7 +62,7 @@ impl MemStore {
         // A call fails if it is to fail or if there is no such file, and else it doesn't.
         ensures told { Contains self.old.failing.items self.old.calls → IsErr result }
         ensures missing { held self.old.files name.now ≡ None → IsErr result }
-        ensures else_not { self.old.failing.items ≡ [] → IsSome (held self.old.files name.now) → result ≢ Err StoreFault.Failed }
+        ensures else_not { ¬ Contains self.old.failing.items self.old.calls → IsSome (held self.old.files name.now) → result ≢ Err StoreFault.Failed }
 
         ensures one_more { result ≡ Err StoreFault.Failed → self.new.read_faults ≡ min (self.old.read_faults + 1) (2 ^ 64 - 1) }
         ensures no_fault { result ≢ Err StoreFault.Failed → state_of self.new ≡ state_of self.old }
@@ -90,7 +90,7 @@ impl MemStore {
 
         // A call fails if it is to fail, and else it doesn't.
         ensures told { Contains self.old.failing.items self.old.calls → IsErr result }
-        ensures else_not { self.old.failing.items ≡ [] → result ≢ Err StoreFault.Failed }
+        ensures else_not { ¬ Contains self.old.failing.items self.old.calls → result ≢ Err StoreFault.Failed }
 
         ensures one_more { result ≡ Err StoreFault.Failed → self.new.write_faults ≡ min (self.old.write_faults + 1) (2 ^ 64 - 1) }
         ensures not_counted { result ≢ Err StoreFault.Failed → self.new.write_faults ≡ self.old.write_faults }
