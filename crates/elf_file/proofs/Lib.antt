@@ -1,6 +1,14 @@
-pub mod Fields
+pub mod Examples
+pub mod Numbers
+pub mod Ranges
+pub mod FirstFault
+pub mod Loads
+pub mod Clashes
+pub mod ReadBack
 pub mod Trimming
 pub mod Bytes
+pub mod Soundness
 pub mod LoadLaw
+pub mod Judging
 pub mod Appending
 pub mod Whole

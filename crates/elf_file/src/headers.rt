@@ -6,27 +6,30 @@ use crate::placing::{PAGE, Placed};
 use byteorder::{ByteOrder, LittleEndian};
 
 /// The length of the file's header.
-const HEADER_SIZE: usize = 64;
+pub const HEADER_SIZE: usize = 64;
 
 /// The length of a program header.
-const ENTRY_SIZE: usize = 56;
+pub const ENTRY_SIZE: usize = 56;
 
 /// The first bytes of an ELF file: 64 bits, little endian, version 1, no ABI.
 const IDENT: [u8; 16] = [0x7f, b'E', b'L', b'F', 2, 1, 1, 0, 0, 0, 0, 0, 0, 0, 0, 0];
 
+/// The first four bytes, read as a number.
+pub const MAGIC: u32 = 0x464c_457f;
+
 /// The type of an executable.
-const EXECUTABLE: u16 = 2;
+pub const EXECUTABLE: u16 = 2;
 
 /// The number of RISC-V among the machines.
-const RISCV: u16 = 243;
+pub const RISCV: u16 = 243;
 
 const VERSION: u32 = 1;
 
 /// The start of RAM, where a program begins.
-const ENTRY_POINT: u64 = 0x8000_0000;
+pub const ENTRY_POINT: u64 = 0x8000_0000;
 
 /// The kind of a program header whose segment is loaded.
-const LOAD: u32 = 1;
+pub const LOAD: u32 = 1;
 
 /// The header of a file with so many program headers right behind it, and with no sections.
 pub fn file_header(count: u16) -> [u8; HEADER_SIZE]

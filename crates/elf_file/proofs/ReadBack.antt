@@ -1,13 +1,14 @@
 -- What the loader reads in a file's headers is what was written there.
-use Rattle.std.proofs.Common.{◌≡◌, ℕ, suc, ◌+◌, ◌*◌, ◌^◌, ◌<◌, List, [], ◌∷◌, ◌++◌, length, take, drop, map, refl, sym, ap, ◌∙◌, append_assoc, arith}
+use Rattle.std.proofs.Common.{◌≡◌, ℕ, ◌+◌, ◌*◌, ◌^◌, ◌<◌, List, [], ◌∷◌, ◌++◌, length, take, drop, refl, sym, ap, ◌∙◌, append_assoc, arith}
 use Rattle.std.specs.Int.{w16, w32, w64, to_le_bytes}
 use Rattle.std.specs.List.{flat_map, AllByRecursion}
 use Rattle.std.proofs.lemmas.List.{drop_at, drop-drop, length-append}
 use Rattle.std.proofs.lemmas.List.Concat.{flat_map-cons}
 use Rattle.std.proofs.lemmas.Nat.{from_le_bytes-to_le_bytes_2, from_le_bytes-to_le_bytes_4, from_le_bytes-to_le_bytes_8}
 use Rattle.rv_fields.specs.Memory.{number_of}
-use Rattle.elf_file.specs.Writing.{Placed, program_header, page}
-use Rattle.elf_file.specs.Loading.{field, ProgramHeader, header_at, headers_at}
+use Rattle.elf_file.specs.declared.fields.ProgramHeader.{ProgramHeader}
+use Rattle.elf_file.specs.Writing.{Placed, program_header}
+use Rattle.elf_file.specs.Headers.{field, header_offset, header_in, header_at, headers_from}
 
 -- ---- numbers
 
@@ -44,56 +45,62 @@ pub record FitsFields (p : Placed) : Type 0 where
   pub filesz : length p.bytes < 2 ^ 64
   pub memsz : p.size < 2 ^ 64
 
-abbrev pub header_of : Placed → ProgramHeader
-header_of p = record {
+-- the program header of a placed segment, as it is read again
+abbrev pub header_of : ℕ → Placed → ProgramHeader
+header_of number p = record {
+  number = number;
   kind = 1;
   flags = number_of (to_le_bytes w32 p.flags);
   offset = p.offset;
-  vaddr = read_again p.at;
   paddr = read_again p.at;
   filesz = length p.bytes;
   memsz = p.size;
-  align = page;
 }
 
+abbrev pub headers_of : ℕ → List Placed → List ProgramHeader
+headers_of number [] = []
+headers_of number (p ∷ ps) = header_of number p ∷ headers_of (number + 1) ps
+
 field_behind : (front file : List ℕ) (at k size : ℕ) → length front ≡ at → field (front ++ file) (at + k) size ≡ field file k size
+unfolding field
 field_behind front file at k size is = ap (λ (xs : List ℕ). number_of (take size xs)) (sym (drop-drop k at (front ++ file)) ∙ ap (drop k) (drop_at front file at is))
 
 field_first : (front file : List ℕ) (at size : ℕ) → length front ≡ at → field (front ++ file) at size ≡ field file 0 size
+unfolding field
 field_first front file at size is = ap (λ (xs : List ℕ). number_of (take size xs)) (drop_at front file at is)
 
-header_first : (p : Placed) (rest : List ℕ) → FitsFields p → header_at (program_header p ++ rest) 0 ≡ header_of p
-unfolding header_at read_again
-header_first p rest fits =
+header_first : (number : ℕ) (p : Placed) (rest : List ℕ) → FitsFields p → header_in (program_header p ++ rest) 0 number ≡ header_of number p
+unfolding field read_again
+header_first number p rest fits =
     let offset = number_of-eight p.offset fits.offset in
     let filesz = number_of-eight (length p.bytes) fits.filesz in
     let memsz = number_of-eight p.size fits.memsz in
-    λ i. record (header_of p) { offset = offset i; filesz = filesz i; memsz = memsz i }
+    λ i. record (header_of number p) { offset = offset i; filesz = filesz i; memsz = memsz i }
 
-header_behind : (front file : List ℕ) (at : ℕ) → length front ≡ at → header_at (front ++ file) at ≡ header_at file 0
-unfolding header_at
-header_behind front file at is = λ i. record {
+header_behind : (front file : List ℕ) (at number : ℕ) → length front ≡ at → header_in (front ++ file) at number ≡ header_in file 0 number
+header_behind front file at number is = λ i. record {
+  number = number;
   kind = field_first front file at 4 is i;
   flags = field_behind front file at 4 4 is i;
   offset = field_behind front file at 8 8 is i;
-  vaddr = field_behind front file at 16 8 is i;
   paddr = field_behind front file at 24 8 is i;
   filesz = field_behind front file at 32 8 is i;
   memsz = field_behind front file at 40 8 is i;
-  align = field_behind front file at 48 8 is i;
 }
 
--- the headers of placed segments, one behind another, wherever they begin
-pub headers_at-placed : (ps : List Placed) (front rest : List ℕ) (at : ℕ) → length front ≡ at → AllByRecursion FitsFields ps
-    → headers_at (length ps) (front ++ (flat_map program_header ps ++ rest)) at ≡ map header_of ps
-headers_at-placed [] front rest at is fits = refl
-headers_at-placed (p ∷ ps) front rest at is fits =
+-- the headers of placed segments, behind the file's header and those of other segments
+pub headers_from-placed : (ps : List Placed) (file front rest : List ℕ) (number : ℕ) → file ≡ front ++ (flat_map program_header ps ++ rest)
+    → header_offset file ≡ 64 → length front ≡ 64 + 56 * number → AllByRecursion FitsFields ps → headers_from file number (length ps) ≡ headers_of number ps
+unfolding header_at
+headers_from-placed [] file front rest number is offset at fits = refl
+headers_from-placed (p ∷ ps) file front rest number is offset at fits =
     let behind : List ℕ = flat_map program_header ps ++ rest in
-    let regrouped : front ++ (flat_map program_header (p ∷ ps) ++ rest) ≡ front ++ (program_header p ++ behind) =
-    ap (λ (xs : List ℕ). front ++ (xs ++ rest)) (flat_map-cons program_header p ps) ∙ ap (λ (xs : List ℕ). front ++ xs) (append_assoc (program_header p) (flat_map program_header ps) rest) in
-    let further : front ++ (program_header p ++ behind) ≡ (front ++ program_header p) ++ behind = sym (append_assoc front (program_header p) behind) in
-    let first : header_at (front ++ (program_header p ++ behind)) at ≡ header_of p = header_behind front (program_header p ++ behind) at is ∙ header_first p behind fits.0 in
-    let end : length (front ++ program_header p) ≡ at + 56 = length-append front (program_header p) ∙ ap (λ n. n + 56) is in
-    let others = headers_at-placed ps (front ++ program_header p) rest (at + 56) end fits.1 in
-    ap (λ (xs : List ℕ). headers_at (suc (length ps)) xs at) regrouped
-    ∙ (λ i. first i ∷ (ap (λ (xs : List ℕ). headers_at (length ps) xs (at + 56)) further ∙ others) i)
+    let regrouped : file ≡ front ++ (program_header p ++ behind) =
+    is ∙ ap (λ (xs : List ℕ). front ++ (xs ++ rest)) (flat_map-cons program_header p ps) ∙ ap (λ (xs : List ℕ). front ++ xs) (append_assoc (program_header p) (flat_map program_header ps) rest) in
+    let first : header_at file number ≡ header_of number p =
+    ap (λ start. header_in file (start + 56 * number) number) offset ∙ ap (λ xs. header_in xs (64 + 56 * number) number) regrouped
+    ∙ header_behind front (program_header p ++ behind) (64 + 56 * number) number at ∙ header_first number p behind fits.0 in
+    let further : file ≡ (front ++ program_header p) ++ behind = regrouped ∙ sym (append_assoc front (program_header p) behind) in
+    let end : length (front ++ program_header p) ≡ 64 + 56 * (number + 1) = omega (arith, length-append front (program_header p)) in
+    let others = headers_from-placed ps file (front ++ program_header p) rest (number + 1) further offset end fits.1 in
+    λ i. first i ∷ others i

@@ -1,0 +1,6 @@
+use Rattle.std.proofs.Common.{◌∙◌}
+use Rattle.elf_file.proofs.Numbers.{number_is_field}
+use Rattle.elf_file.proofs.fields.field_u32.Goals as goal
+
+pub returns : goal.returns
+returns c = c.read_u32.ensures ∙ number_is_field c.args.bytes.now c.args.at 4 c.requires

@@ -1,0 +1,36 @@
+use Rattle.std.proofs.Common.{ℕ, ◌≡◌, Bool, true, false, cond, Some, ◌∙◌, refl, sym, ap, rules}
+use Rattle.std.specs.Prelude.{IsTrue}
+use Rattle.rv_fields.specs.Memory.{in_ram}
+use Rattle.std.proofs.lemmas.Result.{err_from_is_err_and}
+use Rattle.ram_image.specs.Segments.{stretches, memory_of}
+use Rattle.elf_file.specs.Loading.{load}
+use Rattle.elf_file.proofs.LoadLaw.{load-elf_of}
+use Rattle.elf_file.proofs.Judging.{loaded_without_fault, unloaded_with_fault, no_fault_written, only_memory}
+use Rattle.elf_file.proofs.reading.read_elf.Goals as goal
+
+where_true : (b : Bool) (x : ℕ) → IsTrue b → cond b x 0 ≡ x
+where_true true x h = refl
+where_true false x h = absurd (search rules)
+
+pub returns-in_err-segments-clause-unloaded : goal.returns-in_err-segments-clause-unloaded
+returns-in_err-segments-clause-unloaded c =
+    let p = err_from_is_err_and c.from_residual.result c.from_residual.ensures.1 in
+    rw (p.1, p.2) (λ other a. unloaded_with_fault c.args.bytes.now c.in_err-segments.field-0.0 a (c.in_err-segments.ensures.fault other))
+
+pub returns-in_err-segments-clause-written : goal.returns-in_err-segments-clause-written
+returns-in_err-segments-clause-written c =
+    let p = err_from_is_err_and c.from_residual.result c.from_residual.ensures.1 in
+    rw (p.1, p.2) (λ segments few sound is.
+    only_memory c.in_err-segments.field-0.0 (λ other. no_fault_written c.args.bytes.now segments c.in_err-segments.field-0.0 few sound is (c.in_err-segments.ensures.fault other)))
+
+pub returns-clause-memory : goal.returns-clause-memory
+returns-clause-memory c = λ a inside. loaded_without_fault c.args.bytes.now a c.in_ok-segments.ensures.fault
+    ∙ sym (ap Some (
+    c.in_ok-from_segments.ensures a ∙ where_true (in_ram a 1) _ inside ∙ ap (λ segments. memory_of (stretches segments) a) c.deref.ensures.value
+    ∙ ap (λ segments. memory_of segments a) c.in_ok-segments.ensures.segments
+    ))
+
+pub returns-clause-written : goal.returns-clause-written
+returns-clause-written c = λ segments few sound is a inside.
+    let read : Some (memory_of segments a) ≡ Some _ = sym (load-elf_of segments a few sound) ∙ ap (λ file. load file a) (sym is) ∙ returns-clause-memory c a inside in
+    (cc)
