@@ -57,9 +57,11 @@ fn the_handlers(rt: HostRuntime) {
 #[test]
 fn the_values_of_hart_0(rt: HostRuntime) {
     let mut registers = ValueFile::new();
+    assert!(rt; !registers.touched(1));
     registers.fix(1, 7);
     registers.write(1, 8);
     registers.write(2, 9);
+    assert!(rt; !registers.touched(31));
     registers.fix(31, u64::MAX);
     let values = boot_values(0, &registers);
     let csrs = [
