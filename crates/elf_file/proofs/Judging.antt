@@ -1,11 +1,14 @@
 -- The file's fault is that of the first part of it that has one, and a file without a fault has sound segments.
-use Rattle.std.proofs.Common.{◌≡◌, ◌≢◌, ℕ, ◌≤◌, cond, true, ◌&&◌, List, [], ◌∷◌, ◌++◌, length, take, drop, map, Some, None, refl, sym, ap, ◌∙◌, arith}
+use Rattle.std.proofs.Common.{◌≡◌, ◌≢◌, ℕ, ◌≤◌, cond, true, false, inl, inr, ◌&&◌, List, [], ◌∷◌, ◌++◌, length, take, drop, map, Some, None, refl, sym, ap, ◌∙◌, arith}
+use Rattle.std.specs.Prelude.{unwrap_or}
 use Rattle.std.specs.List.{list_all, flat_map}
-use Rattle.std.proofs.lemmas.Bool.{and_parts, and_from, le-leb, leb-true}
+use Rattle.std.proofs.lemmas.Bool.{and_parts, and_from, le-leb, leb-true, cases_Bool}
+use Rattle.std.proofs.lemmas.Bool.Decides.{nat_tests}
 use Rattle.std.proofs.lemmas.List.{length-take}
 use Rattle.std.proofs.lemmas.List.Concat.{flat_map-cons}
 use Rattle.std.proofs.lemmas.List.Folds.{list_all-append}
-use Rattle.ram_image.specs.Segments.{Stretch, memory_of, span_of as span_of_stretch, lies_in_ram, are_apart, has_room, are_sound}
+use Rattle.rv_fields.specs.Memory.{in_ram}
+use Rattle.ram_image.specs.Segments.{Stretch, stretch_byte, memory_of, span_of as span_of_stretch, lies_in_ram, are_apart, has_room, are_sound}
 use Rattle.elf_file.specs.declared.fault.ElfFault.{ElfFault}
 use Rattle.elf_file.specs.declared.fault.ElfFault.TheVariants.{Short, NotElf, NotThis, OutsideRam, Clash, Memory}
 use Rattle.elf_file.specs.declared.fields.ProgramHeader.{ProgramHeader}
@@ -96,3 +99,24 @@ sound_segments file none =
     let both = and_parts (list_all (λ t. t.holds) (each file)) (list_all (λ t. t.holds) (pairs file)) (sym (list_all-append (λ t. t.holds) (each file) (pairs file)) ∙ parts.1) in
     let segments = segments_sound file (loads file) both.0 in
     and_from _ _ (and_from _ _ segments.0 segments.1) (ap are_apart (spans file (loads file)) ∙ apart_from_hold (loads file) both.1)
+
+-- ---- memory
+
+none_outside : (s : Stretch) (a : ℕ) → lies_in_ram (span_of_stretch s) ≡ true → in_ram a 1 ≡ false → stretch_byte s a ≡ None
+none_outside s a ram outside = grind (arith, nat_tests)
+
+zero_outside : (ss : List Stretch) (a : ℕ) → list_all (λ s. lies_in_ram (span_of_stretch s)) ss ≡ true → in_ram a 1 ≡ false → memory_of ss a ≡ 0
+zero_outside [] a rams outside = refl
+zero_outside (s ∷ ss) a rams outside =
+    let both = and_parts (lies_in_ram (span_of_stretch s)) (list_all (λ s. lies_in_ram (span_of_stretch s)) ss) rams in
+    ap (λ byte. unwrap_or byte (memory_of ss a)) (none_outside s a both.0 outside) ∙ zero_outside ss a both.1 outside
+
+-- outside RAM sound segments have nothing
+pub memory_in_ram : (ss : List Stretch) (a : ℕ) → are_sound ss ≡ true → cond (in_ram a 1) (memory_of ss a) 0 ≡ memory_of ss a
+memory_in_ram ss a sound =
+    let parts = and_parts (list_all has_room ss && list_all (λ s. lies_in_ram (span_of_stretch s)) ss) (are_apart (map span_of_stretch ss)) sound in
+    let each = and_parts (list_all has_room ss) (list_all (λ s. lies_in_ram (span_of_stretch s)) ss) parts.0 in
+    elim (cases_Bool (in_ram a 1)) [
+      | inl inside ↦ ap (λ b. cond b (memory_of ss a) 0) inside
+      | inr outside ↦ ap (λ b. cond b (memory_of ss a) 0) outside ∙ sym (zero_outside ss a each.1 outside)
+    ]

@@ -1,6 +1,5 @@
 ghost use Rattle.std.specs.Prelude.{◌≡◌, ℕ, ◌≤◌, ◌⊎◌, ◌+◌, ◌*◌, ◌≢◌, List, length, take, drop, map, All, IsTrue, IfOk, IfErr, MatchResult, OnOk, Some, None};
 ghost use Rattle.std.specs.List.{flat_map};
-ghost use Rattle.rv_fields.specs.Memory.{in_ram};
 ghost use Rattle.ram_image.specs.Segments.{Stretch, stretch_of, stretches, lies_in_ram, are_sound, memory_of};
 ghost use Rattle.ram_image.specs.Ram.{memory};
 ghost use Rattle.elf_file.specs.Headers.{header_offset, header_count, loads};
@@ -24,13 +23,13 @@ use std::alloc::Global;
 /// The time is linear in the file's length and in that of the segments in memory, but for a look-up among the
 /// segments for each.
 pub fn read_elf(alloc: Global, bytes: &[u8]) -> Result<Ram, ElfFault>
-    ensures memory { IfOk result (λ ram. (a : ℕ) → IsTrue (in_ram a 1) → load bytes.now a ≡ Some (memory ram a)) }
+    ensures memory { IfOk result (λ ram. (a : ℕ) → load bytes.now a ≡ Some (memory ram a)) }
     ensures fault { Finds result (fault_of bytes.now) }
     ensures unloaded { IfErr result (λ fault. fault ≢ Memory → (a : ℕ) → load bytes.now a ≡ None) }
 
     // What was written is read again.
     ensures written { (segments : List Stretch) → length segments ≤ 72 → IsTrue (are_sound segments) → bytes.now ≡ elf_of segments
-        → MatchResult result (λ ram. (a : ℕ) → IsTrue (in_ram a 1) → memory ram a ≡ memory_of segments a) (λ fault. fault ≡ Memory) }
+        → MatchResult result (λ ram. (a : ℕ) → memory ram a ≡ memory_of segments a) (λ fault. fault ≡ Memory) }
 {
     let segments = read_segments(alloc, bytes)?;
     Ok(Ram::from_segments(alloc, &segments)?)

@@ -1,16 +1,11 @@
-use Rattle.std.proofs.Common.{ℕ, ◌≡◌, Bool, true, false, cond, Some, ◌∙◌, refl, sym, ap, rules}
-use Rattle.std.specs.Prelude.{IsTrue}
-use Rattle.rv_fields.specs.Memory.{in_ram}
+use Rattle.std.proofs.Common.{◌≡◌, cond, Some, ◌∙◌, sym, ap}
 use Rattle.std.proofs.lemmas.Result.{err_from_is_err_and}
+use Rattle.rv_fields.specs.Memory.{in_ram}
 use Rattle.ram_image.specs.Segments.{stretches, memory_of}
 use Rattle.elf_file.specs.Loading.{load}
 use Rattle.elf_file.proofs.LoadLaw.{load-elf_of}
-use Rattle.elf_file.proofs.Judging.{loaded_without_fault, unloaded_with_fault, no_fault_written, only_memory}
+use Rattle.elf_file.proofs.Judging.{loaded_without_fault, unloaded_with_fault, no_fault_written, only_memory, memory_in_ram}
 use Rattle.elf_file.proofs.reading.read_elf.Goals as goal
-
-where_true : (b : Bool) (x : ℕ) → IsTrue b → cond b x 0 ≡ x
-where_true true x h = refl
-where_true false x h = absurd (search rules)
 
 pub returns-in_err-segments-clause-unloaded : goal.returns-in_err-segments-clause-unloaded
 returns-in_err-segments-clause-unloaded c =
@@ -24,13 +19,14 @@ returns-in_err-segments-clause-written c =
     only_memory c.in_err-segments.field-0.0 (λ other. no_fault_written c.args.bytes.now segments c.in_err-segments.field-0.0 few sound is (c.in_err-segments.ensures.fault other)))
 
 pub returns-clause-memory : goal.returns-clause-memory
-returns-clause-memory c = λ a inside. loaded_without_fault c.args.bytes.now a c.in_ok-segments.ensures.fault
+returns-clause-memory c = λ a.
+    loaded_without_fault c.args.bytes.now a c.in_ok-segments.ensures.fault
     ∙ sym (ap Some (
-    c.in_ok-from_segments.ensures a ∙ where_true (in_ram a 1) _ inside ∙ ap (λ segments. memory_of (stretches segments) a) c.deref.ensures.value
-    ∙ ap (λ segments. memory_of segments a) c.in_ok-segments.ensures.segments
+    c.in_ok-from_segments.ensures a ∙ ap (λ segments. cond (in_ram a 1) (memory_of (stretches segments) a) 0) c.deref.ensures.value
+    ∙ memory_in_ram (stretches c.in_ok-segments.segments.items) a c.in_ok-segments.ensures.sound ∙ ap (λ segments. memory_of segments a) c.in_ok-segments.ensures.segments
     ))
 
 pub returns-clause-written : goal.returns-clause-written
-returns-clause-written c = λ segments few sound is a inside.
-    let read : Some (memory_of segments a) ≡ Some _ = sym (load-elf_of segments a few sound) ∙ ap (λ file. load file a) (sym is) ∙ returns-clause-memory c a inside in
+returns-clause-written c = λ segments few sound is a.
+    let read : Some (memory_of segments a) ≡ Some _ = sym (load-elf_of segments a few sound) ∙ ap (λ file. load file a) (sym is) ∙ returns-clause-memory c a in
     (cc)
