@@ -1,3 +1,9 @@
 pub mod Examples
 pub mod Words
 pub mod Runs
+pub mod Cuts
+pub mod Decimals
+pub mod Faults
+pub mod Told
+pub mod Orders
+pub mod OrderTexts

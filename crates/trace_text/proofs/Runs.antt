@@ -31,7 +31,7 @@ ends_before hart next (t ∷ ts) other = elim (cases_eq t.hart next) [
 ]
 
 -- a run is as many steps as are counted, where what comes after it adds none
-run : (hart count : ℕ) (order : List ℕ) → 0 < count → with_turn hart (turns_of order) ≡ turns hart 1 ∷ turns_of order
+pub run : (hart count : ℕ) (order : List ℕ) → 0 < count → with_turn hart (turns_of order) ≡ turns hart 1 ∷ turns_of order
     → turns_of (replicate count hart ++ order) ≡ turns hart count ∷ turns_of order
 run hart zero order some ends = absurd (omega arith)
 run hart (suc zero) order some ends = ends

@@ -80,9 +80,9 @@ fn append_order(harts: u8, order: &[u8], into: &mut Vec<u8>) -> Result<(), NoMem
 
 /// So many steps of one hart, one after another.
 #[derive(Clone, Copy)]
-struct Turns {
-    hart: u8,
-    count: usize,
+pub(crate) struct Turns {
+    pub(crate) hart: u8,
+    pub(crate) count: usize,
 }
 
 impl fmt::Display for Turns {

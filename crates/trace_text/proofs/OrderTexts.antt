@@ -1,0 +1,222 @@
+-- The lines of an order's text, as the reader sees them.
+use Rattle.std.proofs.Common.{◌≡◌, ◌≢◌, ℕ, suc, ◌+◌, ◌-◌, ◌<◌, ◌≤◌, ◌^◌, List, [], ◌∷◌, ◌++◌, length, replicate, Bool, true, false, cond, not, refl, sym, ap, subst, ◌∙◌, arith, append_assoc, inl, inr, Option, Some, None, add-one}
+use Rattle.std.specs.Prelude.{All, ◌==◌, codes, nat_lt}
+use Rattle.std.specs.List.{flat_map, AllByRecursion}
+use Rattle.std.specs.Option.{option_map_or}
+use Rattle.std.specs.Fmt.{decimal}
+use Rattle.std.specs.Str.Parse.{AllDigits, digits_value}
+use Rattle.std.proofs.lemmas.Bool.{ne_eqb, eq-eqb, lt-ltb, le-ltb, cases_eq, not_from_false, false≢true}
+use Rattle.std.proofs.lemmas.Fmt.{decimal_is_IsNumeral}
+use Rattle.std.proofs.lemmas.List.{length-append, length-replicate}
+use Rattle.std.proofs.lemmas.List.Elements.{All-append, All-from_recursion}
+use Rattle.std.proofs.lemmas.List.Splits.{slice_split_at, slice_split_none}
+use Rattle.std.proofs.lemmas.Str.Parse.{digit_from_value}
+use Rattle.trace_text.specs.Text.{Turns, with_turn, turns_of, turns_text, space, newline}
+use Rattle.trace_text.specs.Numbers.{decimal_below}
+use Rattle.trace_text.specs.Fields.{lines_of_text, fields_of, fault_from, wrong_in, wrong_at_end, first_fault}
+use Rattle.trace_text.specs.Orders.{order_form, nothing, turns, steps_of, number_in, is_another_hart, is_decimal, most_steps}
+use Rattle.trace_text.proofs.Decimals as decimals
+use Rattle.trace_text.proofs.Faults.{step}
+
+abbrev Lacks : ℕ → List ℕ → Type 0
+Lacks byte bytes = All (λ b. (b == byte) ≡ false) bytes
+
+digits_lack : (byte : ℕ) (ds : List ℕ) → byte < 48 → AllDigits 10 ds → AllByRecursion (λ b. (b == byte) ≡ false) ds
+digits_lack byte [] low digits = tt
+digits_lack byte (d ∷ ds) low digits = (ne_eqb d byte (λ e. omega (arith, digit_from_value d digits.0)), digits_lack byte ds low digits.1)
+
+pub decimal_lacks : (byte n : ℕ) → byte < 48 → n < 2 ^ 64 → Lacks byte (decimal n)
+decimal_lacks byte n low small =
+    All-from_recursion (λ b. (b == byte) ≡ false) (decimal n) (digits_lack byte (decimal n) low (decimal_is_IsNumeral n small).0.1)
+
+space_lacks : Lacks 0x0a (codes " ")
+space_lacks = All-from_recursion (λ b. (b == 0x0a) ≡ false) (codes " ") (refl, tt)
+
+pub value_of_decimal : (n : ℕ) → n < 2 ^ 64 → digits_value 10 (decimal n) ≡ n
+value_of_decimal n small = (decimal_is_IsNumeral n small).1
+
+pub reads_again : (bound n : ℕ) → n < bound → n < 2 ^ 64 → decimal_below bound (decimal n) ≡ Some n
+reads_again bound n below small =
+    let value : digits_value 10 (decimal n) ≡ n = value_of_decimal n small in
+    decimals.spelled bound (decimal n) (omega arith) (ap decimal value) ∙ ap Some value
+
+-- a line of an order without its newline
+abbrev pub turns_line : Turns → List ℕ
+turns_line t = decimal t.hart ++ space ++ decimal t.count
+
+pub record Small (t : Turns) : Type 0 where
+  pub hart : t.hart < 2 ^ 64
+  pub count : t.count < 2 ^ 64
+
+pub line_of : (t : Turns) (rest : List ℕ) → Small t → lines_of_text (turns_text t ++ rest) ≡ turns_line t ∷ lines_of_text rest
+line_of t rest small =
+    let hart = decimal t.hart in
+    let count = decimal t.count in
+    let lacks : Lacks 0x0a (hart ++ space ++ count) =
+    All-append (λ b. (b == 0x0a) ≡ false) (hart ++ space) count
+    (All-append (λ b. (b == 0x0a) ≡ false) hart space (decimal_lacks 0x0a t.hart (omega arith) small.hart) space_lacks)
+    (decimal_lacks 0x0a t.count (omega arith) small.count) in
+    ap lines_of_text (append_assoc (turns_line t) newline rest)
+    ∙ slice_split_at (λ b. b == 0x0a) (turns_line t) 0x0a rest lacks refl
+
+pub fields_of_line : (t : Turns) → Small t → fields_of (turns_line t) ≡ decimal t.hart ∷ decimal t.count ∷ []
+fields_of_line t small =
+    let hart = decimal t.hart in
+    let count = decimal t.count in
+    ap fields_of (append_assoc hart space count)
+    ∙ slice_split_at (λ b. b == 0x20) hart 0x20 count (decimal_lacks 0x20 t.hart (omega arith) small.hart) refl
+    ∙ ap (λ (fs : List (List ℕ)). hart ∷ fs) (slice_split_none (λ b. b == 0x20) count (decimal_lacks 0x20 t.count (omega arith) small.count))
+
+abbrev pub Another : Option ℕ → ℕ → Type 0
+Another None hart = Unit {0}
+Another (Some before) hart = before ≢ hart
+
+another_passes : (harts : ℕ) (last : Option ℕ) (hart : ℕ) → hart < harts → hart < 2 ^ 64 → Another last hart
+    → is_another_hart harts last (decimal hart) ≡ true
+another_passes harts None hart below small other =
+    ap (λ o. option_map_or (λ h. option_map_or (λ before. not (before == h)) None true) o false) (reads_again harts hart below small)
+another_passes harts (Some last) hart below small other =
+    ap (λ o. option_map_or (λ h. option_map_or (λ before. not (before == h)) (Some last) true) o false) (reads_again harts hart below small)
+    ∙ not_from_false (last == hart) (ne_eqb last hart other)
+
+count_passes : (bound count : ℕ) → 1 ≤ count → count < bound → count < 2 ^ 64 → is_decimal 1 bound (decimal count) ≡ true
+count_passes bound count some below small =
+    ap (λ o. option_map_or (λ n. not (nat_lt n 1)) o false) (reads_again bound count below small)
+    ∙ not_from_false (nat_lt count 1) (le-ltb count 1 some)
+
+both_pass : (a b : Bool) → a ≡ true → b ≡ true → cond {A = Option ℕ} a (cond {A = Option ℕ} b None (Some 2)) (Some 1) ≡ None
+both_pass true true first second = refl
+both_pass true false first second = absurd (false≢true second)
+both_pass false b first second = absurd (false≢true first)
+
+-- The turns of so many harts behind so many steps, the last of them by this hart.
+abbrev pub AreTurns : ℕ → Option ℕ → ℕ → List Turns → Type 0
+AreTurns harts last steps [] = Unit {0}
+AreTurns harts last steps (t ∷ ts) =
+    (t.hart < harts) × Another last t.hart × (1 ≤ t.count) × (steps + t.count ≤ most_steps) × AreTurns harts (Some t.hart) (steps + t.count) ts
+
+small_turns : (harts steps : ℕ) (t : Turns) → harts ≤ 16 → t.hart < harts → steps + t.count ≤ most_steps → Small t
+small_turns harts steps t few below fits = record { hart = omega arith; count = omega arith }
+
+pub passes : (harts : ℕ) (last : Option ℕ) (steps : ℕ) (t : Turns) → harts ≤ 16 → t.hart < harts → Another last t.hart → 1 ≤ t.count
+    → steps + t.count ≤ most_steps → wrong_in order_form (turns harts last steps) (fields_of (turns_line t)) ≡ None
+passes harts last steps t few below other some fits =
+    let small = small_turns harts steps t few below fits in
+    ap (wrong_in order_form (turns harts last steps)) (fields_of_line t small)
+    ∙ both_pass (is_another_hart harts last (decimal t.hart)) (is_decimal 1 (most_steps - steps + 1) (decimal t.count))
+    (another_passes harts last t.hart below small.hart other) (count_passes (most_steps - steps + 1) t.count some (omega arith) small.count)
+
+pub no_fault : (harts : ℕ) (last : Option ℕ) (steps line : ℕ) (ts : List Turns) → harts ≤ 16 → 1 < line → AreTurns harts last steps ts
+    → fault_from order_form (turns harts last steps) line (lines_of_text (flat_map turns_text ts)) ≡ None
+no_fault harts last steps line [] few behind are = ap (λ b. cond b None (Some (record { line = line; field = wrong_at_end order_form (turns harts last steps) (fields_of []) }))) (lt-ltb 1 line behind)
+no_fault harts last steps line (t ∷ ts) few behind are =
+    let small = small_turns harts steps t few are.0 are.3 in
+    let rest = flat_map turns_text ts in
+    let fields : fields_of (turns_line t) ≡ decimal t.hart ∷ decimal t.count ∷ [] = fields_of_line t small in
+    let hart : number_in (fields_of (turns_line t)) 0 ≡ t.hart = ap (λ (fs : List (List ℕ)). number_in fs 0) fields ∙ value_of_decimal t.hart small.hart in
+    let count : number_in (fields_of (turns_line t)) 1 ≡ t.count = ap (λ (fs : List (List ℕ)). number_in fs 1) fields ∙ value_of_decimal t.count small.count in
+    let right = passes harts last steps t few are.0 are.1 are.2 are.3 in
+    ap (fault_from order_form (turns harts last steps) line) (line_of t rest small)
+    ∙ step order_form (turns harts last steps) line (turns_line t) rest
+    ∙ ap (λ w. first_fault line w (fault_from order_form (turns harts (Some (number_in (fields_of (turns_line t)) 0)) (steps + number_in (fields_of (turns_line t)) 1)) (line + 1) (lines_of_text rest))) right
+    ∙ ap (λ h. fault_from order_form (turns harts (Some h) (steps + number_in (fields_of (turns_line t)) 1)) (line + 1) (lines_of_text rest)) hart
+    ∙ ap (λ n. fault_from order_form (turns harts (Some t.hart) (steps + n)) (line + 1) (lines_of_text rest)) count
+    ∙ no_fault harts (Some t.hart) (steps + t.count) (line + 1) ts few (omega arith) are.4
+
+-- the steps of turns
+abbrev pub steps_in : Turns → List ℕ
+steps_in t = replicate t.count t.hart
+
+pub told_steps : (harts : ℕ) (last : Option ℕ) (steps : ℕ) (ts : List Turns) → harts ≤ 16 → AreTurns harts last steps ts
+    → flat_map steps_of (lines_of_text (flat_map turns_text ts)) ≡ flat_map steps_in ts
+told_steps harts last steps [] few are = refl
+told_steps harts last steps (t ∷ ts) few are =
+    let small = small_turns harts steps t few are.0 are.3 in
+    let rest = flat_map turns_text ts in
+    let tail = flat_map steps_of (lines_of_text rest) in
+    let fields : fields_of (turns_line t) ≡ decimal t.hart ∷ decimal t.count ∷ [] = fields_of_line t small in
+    let hart : number_in (fields_of (turns_line t)) 0 ≡ t.hart = ap (λ (fs : List (List ℕ)). number_in fs 0) fields ∙ value_of_decimal t.hart small.hart in
+    let count : number_in (fields_of (turns_line t)) 1 ≡ t.count = ap (λ (fs : List (List ℕ)). number_in fs 1) fields ∙ value_of_decimal t.count small.count in
+    ap (λ (ls : List (List ℕ)). flat_map steps_of ls) (line_of t rest small)
+    ∙ ap (λ n. replicate n (number_in (fields_of (turns_line t)) 0) ++ tail) count
+    ∙ ap (λ h. replicate t.count h ++ tail) hart
+    ∙ ap (λ (l : List ℕ). steps_in t ++ l) (told_steps harts (Some t.hart) (steps + t.count) ts few are.4)
+
+one_more : (hart : ℕ) (ts : List Turns) → flat_map steps_in (with_turn hart ts) ≡ hart ∷ flat_map steps_in ts
+one_more hart [] = refl
+one_more hart (t ∷ ts) = elim (cases_eq t.hart hart) [
+  | inl same ↦ rw (eq-eqb t.hart hart same, add-one t.count) (ap (λ h. hart ∷ (replicate t.count h ++ flat_map steps_in ts)) (sym same))
+  | inr other ↦ rw (ne_eqb t.hart hart other) refl
+]
+
+-- the turns of an order give its steps
+pub steps_of_turns : (order : List ℕ) → flat_map steps_in (turns_of order) ≡ order
+steps_of_turns [] = refl
+steps_of_turns (hart ∷ order) = one_more hart (turns_of order) ∙ ap (λ (l : List ℕ). hart ∷ l) (steps_of_turns order)
+
+-- the first of some turns is of another hart
+abbrev pub Begins : Option ℕ → List Turns → Type 0
+Begins last [] = Unit {0}
+Begins last (t ∷ ts) = Another last t.hart
+
+-- turns of so many harts, neighbours of different ones
+abbrev pub AreRuns : ℕ → List Turns → Type 0
+AreRuns harts [] = Unit {0}
+AreRuns harts (t ∷ ts) = (t.hart < harts) × (1 ≤ t.count) × Begins (Some t.hart) ts × AreRuns harts ts
+
+runs_more : (harts hart : ℕ) (ts : List Turns) → hart < harts → AreRuns harts ts → AreRuns harts (with_turn hart ts)
+runs_more harts hart [] below runs = (below, omega arith, tt, tt)
+runs_more harts hart (t ∷ ts) below runs = elim (cases_eq t.hart hart) [
+  | inl same ↦ rw (eq-eqb t.hart hart same) (below, omega (arith, runs.1), subst (λ h. Begins (Some h) ts) same runs.2, runs.3)
+  | inr other ↦ rw (ne_eqb t.hart hart other) (below, omega arith, (λ e. other (sym e)), runs)
+]
+
+pub runs_of : (harts : ℕ) (order : List ℕ) → AllByRecursion (λ hart. hart < harts) order → AreRuns harts (turns_of order)
+runs_of harts [] named = tt
+runs_of harts (hart ∷ order) named = runs_more harts hart (turns_of order) named.0 (runs_of harts order named.1)
+
+pub steps_more : (t : Turns) (ts : List Turns) → length (flat_map steps_in (t ∷ ts)) ≡ t.count + length (flat_map steps_in ts)
+steps_more t ts = length-append (steps_in t) (flat_map steps_in ts) ∙ ap (λ n. n + length (flat_map steps_in ts)) (length-replicate t.count t.hart)
+
+pub turns_from_runs : (harts : ℕ) (last : Option ℕ) (steps : ℕ) (ts : List Turns) → AreRuns harts ts → Begins last ts
+    → steps + length (flat_map steps_in ts) ≤ most_steps → AreTurns harts last steps ts
+turns_from_runs harts last steps [] runs begins fits = tt
+turns_from_runs harts last steps (t ∷ ts) runs begins fits =
+    let more = steps_more t ts in
+    (runs.0, begins, runs.1, omega (arith, more), turns_from_runs harts (Some t.hart) (steps + t.count) ts runs.3 runs.2 (omega (arith, more)))
+
+pub begins_any : (ts : List Turns) → Begins None ts
+begins_any [] = tt
+begins_any (t ∷ ts) = tt
+
+all_recursion : (P : ℕ → Type 0) (xs : List ℕ) → All P xs → AllByRecursion P xs
+all_recursion P [] all = tt
+all_recursion P (x ∷ xs) all = (all 0 0 (omega arith), all_recursion P xs (λ k d within. all (suc k) d (omega arith)))
+
+pub turns_are : (harts : ℕ) (order : List ℕ) → All (λ hart. hart < harts) order → length order ≤ most_steps → AreTurns harts None 0 (turns_of order)
+turns_are harts order named short =
+    turns_from_runs harts None 0 (turns_of order) (runs_of harts order (all_recursion (λ hart. hart < harts) order named)) (begins_any (turns_of order))
+    (omega (arith, ap length (steps_of_turns order)))
+
+-- the first line of an order's text, and its fields
+abbrev pub header_line : ℕ → List ℕ
+header_line harts = codes "order 1 " ++ decimal harts
+
+pub fields_of_header : (harts : ℕ) → harts < 2 ^ 64 → fields_of (header_line harts) ≡ codes "order" ∷ codes "1" ∷ decimal harts ∷ []
+fields_of_header harts small =
+    ap (λ (fs : List (List ℕ)). codes "order" ∷ codes "1" ∷ fs) (slice_split_none (λ b. b == 0x20) (decimal harts) (decimal_lacks 0x20 harts (omega arith) small))
+
+header_lacks : Lacks 0x0a (codes "order 1 ")
+header_lacks = All-from_recursion (λ b. (b == 0x0a) ≡ false) (codes "order 1 ") (refl, (refl, (refl, (refl, (refl, (refl, (refl, (refl, tt))))))))
+
+pub header_cut : (harts : ℕ) (rest : List ℕ) → harts < 2 ^ 64
+    → lines_of_text (codes "order 1 " ++ decimal harts ++ newline ++ rest) ≡ header_line harts ∷ lines_of_text rest
+header_cut harts rest small =
+    ap lines_of_text (append_assoc (header_line harts) newline rest)
+    ∙ slice_split_at (λ b. b == 0x0a) (header_line harts) 0x0a rest
+    (All-append (λ b. (b == 0x0a) ≡ false) (codes "order 1 ") (decimal harts) header_lacks (decimal_lacks 0x0a harts (omega arith) small)) refl
+
+pub header_passes : (harts : ℕ) → 1 ≤ harts → harts ≤ 16 → wrong_in order_form nothing (fields_of (header_line harts)) ≡ None
+header_passes harts some few =
+    ap (wrong_in order_form nothing) (fields_of_header harts (omega arith))
+    ∙ ap (λ b. cond {A = Option ℕ} b None (Some 3)) (count_passes 17 harts some (omega arith) (omega arith))

@@ -1,0 +1,75 @@
+-- The form of an order, and the order that a text in this form tells.
+use Rattle.std.specs.Prelude.{ℕ, ◌+◌, ◌-◌, ◌<◌, ◌≤◌, true, false, not, ◌==◌, nat_lt, List, [], ◌∷◌, length, drop, replicate, codes, Option, Some, None, All, get_or}
+use Rattle.std.specs.Option.{option_map_or}
+use Rattle.std.specs.List.{flat_map}
+use Rattle.std.specs.Str.{bytes_eq}
+use Rattle.std.specs.Str.Parse.{digits_value}
+use Rattle.trace_text.specs.Numbers.{decimal_below}
+use Rattle.trace_text.specs.Fields.{Test, Form, Place, fault_of, lines_of_text, fields_of}
+
+-- so many harts at most
+abbrev pub most_harts : ℕ
+most_harts = 16
+
+-- so many steps at most
+abbrev pub most_steps : ℕ
+most_steps = 1048576
+
+-- The order in which 1 to 16 harts step.
+pub record IsOrder (harts : ℕ) (order : List ℕ) : Type 0 where
+  pub some : 1 ≤ harts
+  pub most : harts ≤ most_harts
+  pub named : All (λ hart. hart < harts) order
+  pub short : length order ≤ most_steps
+
+-- What is known behind some lines of an order.
+pub data SoFar : Type 0 where
+  nothing : SoFar
+  -- the harts, the hart of the line before where there is one, and how many steps the lines have
+  turns : ℕ → Option ℕ → ℕ → SoFar
+
+-- the field is this word
+abbrev pub is_word : List ℕ → Test
+is_word word field = bytes_eq field word
+
+-- the field is a decimal from low on and below the bound
+abbrev pub is_decimal : ℕ → ℕ → Test
+is_decimal low bound field = option_map_or (λ n. not (nat_lt n low)) (decimal_below bound field) false
+
+-- the first line names the file's kind, version 1 and the number of harts
+abbrev pub header_tests : List ℕ → List Test
+header_tests kind = is_word kind ∷ is_word (codes "1") ∷ is_decimal 1 (most_harts + 1) ∷ []
+
+-- a hart below this number, and not the one of the line before
+abbrev pub is_another_hart : ℕ → Option ℕ → Test
+is_another_hart harts last field =
+    option_map_or (λ hart. option_map_or (λ before. not (before == hart)) last true) (decimal_below harts field) false
+
+abbrev pub order_tests : SoFar → List (List ℕ) → List Test
+order_tests nothing fields = header_tests (codes "order")
+order_tests (turns harts last steps) fields = is_another_hart harts last ∷ is_decimal 1 (most_steps - steps + 1) ∷ []
+
+-- the number that a field's decimal digits write
+abbrev pub number_in : List (List ℕ) → ℕ → ℕ
+number_in fields k = digits_value 10 (get_or fields k [])
+
+abbrev pub order_after : SoFar → List (List ℕ) → SoFar
+order_after nothing fields = turns (number_in fields 2) None 0
+order_after (turns harts last steps) fields = turns harts (Some (number_in fields 0)) (steps + number_in fields 1)
+
+abbrev pub order_form : Form SoFar
+order_form = record { tests = order_tests; after = order_after }
+
+abbrev pub order_fault : List ℕ → Option Place
+order_fault text = fault_of order_form nothing text
+
+-- the steps of a line behind the first
+abbrev pub steps_of : List ℕ → List ℕ
+steps_of line = replicate (number_in (fields_of line) 1) (number_in (fields_of line) 0)
+
+-- the number of harts and the order that a text without a fault tells
+abbrev pub harts_told : List ℕ → ℕ
+harts_told text = number_in (fields_of (get_or (lines_of_text text) 0 [])) 2
+
+abbrev pub order_told : List ℕ → List ℕ
+order_told text = flat_map steps_of (drop 1 (lines_of_text text))

@@ -1,0 +1,31 @@
+-- What the reader of an order may answer.
+use Rattle.std.specs.Prelude.{◌≡◌, ℕ, List, Option, Some, None}
+use Rattle.std.specs.List.{flat_map}
+use Rattle.trace_text.specs.Fields.{Place, fault_from, lines_of_text}
+use Rattle.trace_text.specs.declared.fault.LineFault.{LineFault}
+use Rattle.trace_text.specs.declared.fault.LineFault.TheVariants.{At, Memory}
+use Rattle.trace_text.specs.Orders.{order_form, turns, steps_of, order_fault, order_told, harts_told}
+
+-- the text has no fault, and tells this order of so many harts
+pub record Tells (text : List ℕ) (harts : ℕ) (order : List ℕ) : Type 0 where
+  pub sound : order_fault text ≡ None
+  pub harts_are : harts ≡ harts_told text
+  pub order_is : order ≡ order_told text
+
+-- the fault is this one, or memory ran out
+abbrev pub IsFault : Option Place → LineFault → Type 0
+IsFault fault (At l f) = fault ≡ Some (record { line = l; field = f })
+IsFault fault Memory = Unit {0}
+
+-- the fault is the text's, or memory ran out
+abbrev pub IsFaultOf : List ℕ → LineFault → Type 0
+IsFaultOf text fault = IsFault (order_fault text) fault
+
+-- the fault of the lines behind the first, where the first tells so many harts
+abbrev pub turns_fault : ℕ → List ℕ → Option Place
+turns_fault harts lines = fault_from order_form (turns harts None 0) 2 (lines_of_text lines)
+
+-- the lines behind the first have no fault, and tell this order
+pub record TellsTurns (harts : ℕ) (lines order : List ℕ) : Type 0 where
+  pub sound : turns_fault harts lines ≡ None
+  pub order_is : order ≡ flat_map steps_of (lines_of_text lines)
