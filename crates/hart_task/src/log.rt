@@ -5,7 +5,7 @@ ghost use Rattle.value_file.specs.Values.{initial_of, present_of};
 ghost use Rattle.hart_task.specs.Machine.{with_present};
 
 use rv_fields::NoMemory;
-use trace_text::{Line, StepLine};
+use trace_text::Line;
 use value_file::ValueFile;
 
 /// What a hart has done so far.
