@@ -6,3 +6,4 @@ pub mod MeaningLaws
 pub mod Told
 pub mod CsrExamples
 pub mod OneCsr
+pub mod Names

@@ -3,6 +3,7 @@ ghost use Rattle.std.specs.List.{list_all};
 ghost use Rattle.rv_fields.specs.Name.{is_name, is_name_byte};
 
 use std::marker::Model;
+use std::{fmt, str};
 
 /// The length of the longest name.
 const LONGEST: usize = 24;
@@ -34,6 +35,25 @@ impl Name {
         ensures { result.now ≡ self.now }
     {
         &self.bytes[..self.len]
+    }
+
+    /// The name as text.
+    #[tactic(auto, using(crate::proofs::Names::name_is_text))]
+    pub fn as_str(&self) -> &str
+        ensures { result.now ≡ self.now }
+    {
+        match str::from_utf8(&self.bytes[..self.len]) {
+            Ok(text) => text,
+            Err(_) => unreachable!("a name is ASCII"),
+        }
+    }
+}
+
+impl fmt::Display for Name {
+    ghost output = { λ name. Some name };
+
+    fn fmt<W: fmt::Write>(&self, f: &mut fmt::Formatter<W>) -> fmt::Result {
+        f.pad(self.as_str())
     }
 }
 

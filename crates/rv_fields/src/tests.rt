@@ -86,6 +86,15 @@ fn equal_names_have_equal_bytes(rt: HostRuntime) {
 }
 
 #[test]
+fn names_are_shown(rt: HostRuntime) -> Result<(), Fail> {
+    let name = name_of(b"sfence.vma").unwrap();
+    assert_eq!(rt; name.as_str(), "sfence.vma");
+    let text = format!(in rt.alloc(); "<{name}>")?;
+    assert_eq!(rt; text.as_str(), "<sfence.vma>");
+    Ok(())
+}
+
+#[test]
 fn want_of_memory_is_told(rt: HostRuntime) -> Result<(), Fail> {
     let text = format!(in rt.alloc(); "{NoMemory}")?;
     assert_eq!(rt; text.as_str(), "out of memory");
