@@ -1,5 +1,5 @@
 -- How the words end, from what stopped their command, or from what it wrote.
-use Rattle.std.proofs.Common.{ℕ, zero, suc, ◌≡◌, ◌≢◌, ◌<◌, ◌⊎◌, inl, inr, refl, sym, ap, ◌∙◌, subst, arith, lit<, List, [], ◌++◌, codes, Option, Some, None, IfSome, IsSomeAnd, Result, Ok, Err, IsErrAnd, IfErr, OnOk, append_assoc}
+use Rattle.std.proofs.Common.{ℕ, zero, suc, ◌≡◌, ◌≢◌, ◌<◌, ◌⊎◌, inl, inr, refl, sym, ap, ◌∙◌, subst, arith, lit<, List, [], ◌++◌, codes, Option, Some, None, IfSome, IsSomeAnd, Result, Ok, Err, IsErrAnd, IfErr, OnOk}
 use Rattle.std.specs.Prelude.{MatchOption, slice_get, ⊤}
 use Rattle.store_face.specs.State.{Held, State}
 use Rattle.forge.specs.declared.stop.Stop.{Stop}
@@ -8,10 +8,9 @@ use Rattle.forge.specs.declared.made.Made.{Made}
 use Rattle.forge.specs.Words.{Command, command_of}
 use Rattle.region_plan.specs.Work.{hart_count}
 use Rattle.trace_text.specs.Lines.{Line}
-use Rattle.std.specs.List.{Contains, count_by}
-use Rattle.std.specs.Fmt.{decimal, digits}
+use Rattle.std.specs.List.{Contains}
 use Rattle.forge.specs.declared.made.Counts.{Counts}
-use Rattle.forge.specs.Generated.{counts_text, IsCountOf, is_step, is_done}
+use Rattle.forge.specs.Generated.{counts_text, IsCountOf}
 use Rattle.forge.specs.Ends.{Ends, Succeeds, LeavesRun, LeftBy, Output, inputs, outputs, ReadFails, WriteFails, StopsWriting, usage, Told, Unchanged, KeepsOthers, IsAccepted, IsRefused, refusal}
 use Rattle.forge.specs.Stops.{status_of, stop_text, WhereTold, Becomes, StopsEarly, StopsLate, IsStoppedWrite, EndsBy, IsMadeFor, files_of, counts_body}
 use Rattle.forge.proofs.Leaving.{stopped_since, others_left}
@@ -237,15 +236,10 @@ stopped_early words c old new stop (Ok u) out is e held writes why = absurd is
 stopped_early words c old new stop (Err s) out is e held writes why =
     let P : Stop → Type 0 = λ x. Ends words old new (status_of x) (stop_text x) in subst P (sym is) (ends_early words c old new stop e (held, writes) why)
 
-last_words : (x : List ℕ) → ((x ++ codes " refused ") ++ decimal 0) ++ codes "\n" ≡ x ++ codes " refused 0\n"
-unfolding digits
-last_words x = append_assoc (x ++ codes " refused ") (decimal 0) (codes "\n") ∙ append_assoc x (codes " refused ") (decimal 0 ++ codes "\n")
-
 -- the line of the counts
 counts_line : (counts : Counts) (harts : ℕ) (lines : List Line) → IsCountOf counts harts lines
     → counts_body counts ++ codes "\n" ≡ counts_text harts lines
 counts_line counts harts lines h = rw (h.harts_is, h.steps_is, h.done_is, h.refused_is)
-    (last_words (codes "harts " ++ decimal harts ++ codes " steps " ++ decimal (count_by is_step lines) ++ codes " done " ++ decimal (count_by is_done lines)))
 
 -- a run was made, and so many of its files were written
 abbrev leaves : (c : Command) (old mid new : State) (made : Made) (number : ℕ) → mid.holds ≡ old.holds → IsMadeFor c old made

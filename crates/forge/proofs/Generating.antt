@@ -3,11 +3,12 @@ use Rattle.std.proofs.Common.{ℕ, zero, suc, ◌+◌, ◌-◌, ◌<◌, ◌≡�
 use Rattle.std.specs.Prelude.{unwrap_or}
 use Rattle.std.proofs.lemmas.List.{replicate-append-replicate}
 use Rattle.std.specs.List.{AllByRecursion}
+use Rattle.rv_fields.specs.Effect.{Effect}
 use Rattle.rv_fields.specs.Play.{Machine}
 use Rattle.elf_file.specs.Loading.{load}
 use Rattle.choice_tree.specs.Forest.{Forest}
 use Rattle.region_plan.specs.Work.{Work, hart_count}
-use Rattle.trace_text.specs.Lines.{Line, request, fixed, made, ending, done, hart_of, effects_of, starting}
+use Rattle.trace_text.specs.Lines.{Line, fixed, made, found, ending, hart_of, effects_of, starting}
 use Rattle.trace_text.specs.Text.{turns_of, with_turn, trace_text, order_text}
 use Rattle.boot_words.specs.Startup.{IsBooted}
 use Rattle.ram_image.specs.Pieces.{Piece}
@@ -24,14 +25,18 @@ turns_of_one : (n : ℕ) → turns_of (replicate (suc n) 0) ≡ record { hart = 
 turns_of_one zero = refl
 turns_of_one (suc n) = ap (with_turn 0) (turns_of_one n) ∙ ap (λ k. record { hart = 0; count = k } ∷ []) (omega arith)
 
+-- a step more of the one hart
+of_step : (hart : ℕ) (effects : List Effect) → hart < 1 → order_of effects ≡ replicate (length effects) 0
+    → hart ∷ order_of effects ≡ 0 ∷ replicate (length effects) 0
+of_step hart effects small rest = let zero_is : hart ≡ 0 = omega (arith, small) in ap (λ n. n ∷ order_of effects) zero_is ∙ ap (λ os. 0 ∷ os) rest
+
 -- the harts of the steps are all 0
 order_of_one : (lines : List Line) → AllByRecursion (λ l. hart_of l < 1) lines → order_of (effects_of lines) ≡ replicate (length (effects_of lines)) 0
 order_of_one [] h = refl
-order_of_one (request hart k kind ∷ ls) h = order_of_one ls h.1
-order_of_one (fixed hart register value ∷ ls) h = order_of_one ls h.1
-order_of_one (made e ∷ ls) h = let zero_is : e.hart ≡ 0 = omega (arith, h.0) in ap (λ n. n ∷ order_of (effects_of ls)) zero_is ∙ ap (λ rest. 0 ∷ rest) (order_of_one ls h.1)
-order_of_one (ending e ∷ ls) h = let zero_is : e.hart ≡ 0 = omega (arith, h.0) in ap (λ n. n ∷ order_of (effects_of ls)) zero_is ∙ ap (λ rest. 0 ∷ rest) (order_of_one ls h.1)
-order_of_one (done hart k ∷ ls) h = order_of_one ls h.1
+order_of_one (made e ∷ ls) h = of_step e.hart (effects_of ls) h.0 (order_of_one ls h.1)
+order_of_one (found e ∷ ls) h = of_step e.hart (effects_of ls) h.0 (order_of_one ls h.1)
+order_of_one (ending e ∷ ls) h = of_step e.hart (effects_of ls) h.0 (order_of_one ls h.1)
+order_of_one (l ∷ ls) h = order_of_one ls h.1
 
 replicate_more : (m n : ℕ) → replicate {A = ℕ} m 0 ++ replicate n 0 ≡ replicate (m + n) 0
 replicate_more m n = replicate-append-replicate m n 0
@@ -58,8 +63,6 @@ table_fixes : (initial : ℕ → ℕ → Option ℕ) (others : List Piece) (mach
     → Holds machine.memory (startup_pieces initial 1 ++ others) → IsBooted machine.memory 0 (machine.harts 0)
     → AllByRecursion (λ l. hart_of l < 1) lines → AllByRecursion (IsStarting initial) lines → AllByRecursion (HasFixed (λ h. (machine.harts h).x)) lines
 table_fixes initial others machine [] holds booted members starts = tt
-table_fixes initial others machine (request hart k kind ∷ ls) holds booted members starts =
-    (tt, table_fixes initial others machine ls holds booted members.1 starts.1)
 table_fixes initial others machine (fixed hart register value ∷ ls) holds booted members starts =
     (here, table_fixes initial others machine ls holds booted members.1 starts.1)
   where
@@ -74,11 +77,7 @@ table_fixes initial others machine (fixed hart register value ∷ ls) holds boot
         let loaded = booted.registers (register - 1) below in
         let same : (machine.harts 0).x (register - 1 + 1) ≡ value = cc in
         ap (λ h. (machine.harts h).x register) (sym is_zero) ∙ ap (machine.harts 0).x (sym place) ∙ same
-table_fixes initial others machine (made e ∷ ls) holds booted members starts =
-    (tt, table_fixes initial others machine ls holds booted members.1 starts.1)
-table_fixes initial others machine (ending e ∷ ls) holds booted members starts =
-    (tt, table_fixes initial others machine ls holds booted members.1 starts.1)
-table_fixes initial others machine (done hart k ∷ ls) holds booted members starts =
+table_fixes initial others machine (l ∷ ls) holds booted members starts =
     (tt, table_fixes initial others machine ls holds booted members.1 starts.1)
 
 -- it starts as the lines say

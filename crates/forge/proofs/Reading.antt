@@ -1,5 +1,5 @@
 -- Reads that stop a command, and the files that it reads.
-use Rattle.std.proofs.Common.{ℕ, ◌≡◌, ◌≤◌, ◌<◌, ◌⊎◌, refl, sym, ap, ◌∙◌, arith, lit<, inl, inr, List, take, Option, Some, None, IfSome, IsSomeAnd, subst, length}
+use Rattle.std.proofs.Common.{ℕ, ◌≡◌, ◌≤◌, ◌⊎◌, refl, sym, ap, ◌∙◌, arith, lit<, inl, inr, List, take, Option, Some, None, IfSome, IsSomeAnd, subst, length}
 use Rattle.std.specs.List.{AllByRecursion, Contains}
 use Rattle.store_face.specs.State.{Held, State}
 use Rattle.forge.specs.declared.stop.Stop.{Stop}

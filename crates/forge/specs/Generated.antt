@@ -7,7 +7,7 @@ use Rattle.elf_file.specs.Loading.{load}
 use Rattle.forge.specs.declared.made.Counts.{Counts}
 use Rattle.choice_tree.specs.Forest.{Forest}
 use Rattle.region_plan.specs.Work.{Work, hart_count}
-use Rattle.trace_text.specs.Lines.{Line, request, fixed, made, ending, done, effects_of}
+use Rattle.trace_text.specs.Lines.{Line, made, found, ending, done, refused, effects_of}
 use Rattle.trace_text.specs.Text.{turns_of, trace_text, order_text}
 use Rattle.boot_words.specs.Startup.{IsBooted}
 use Rattle.run_merge.specs.Image.{image}
@@ -39,30 +39,30 @@ pub record IsRunOf (work : Work) (trees : Forest) (seed : ℕ) (elf order trace 
   -- the lines answer the job
   pub answers : Answers work trees seed (hart_count work) lines
 
--- the tests that a line is that of a step, and that a request is done
+-- the tests that a line is that of a step, that a request is done, and that one is refused
 abbrev pub is_step : Line → Bool
-is_step (request h k kind) = false
-is_step (fixed h register value) = false
 is_step (made e) = true
+is_step (found e) = true
 is_step (ending e) = true
-is_step (done h k) = false
+is_step line = false
 
 abbrev pub is_done : Line → Bool
-is_done (request h k kind) = false
-is_done (fixed h register value) = false
-is_done (made e) = false
-is_done (ending e) = false
 is_done (done h k) = true
+is_done line = false
+
+abbrev pub is_refused : Line → Bool
+is_refused (refused h k cause preamble) = true
+is_refused line = false
 
 -- the numbers that a trace tells: its harts, and its lines of steps, of requests that are done and of refused ones
 pub record IsCountOf (counts : Counts) (harts : ℕ) (lines : List Line) : Type 0 where
   pub harts_is : counts.harts ≡ harts
   pub steps_is : counts.steps ≡ count_by is_step lines
   pub done_is : counts.done ≡ count_by is_done lines
-  pub refused_is : counts.refused ≡ 0
+  pub refused_is : counts.refused ≡ count_by is_refused lines
 
 -- the line that tells these numbers
 abbrev pub counts_text : ℕ → List Line → List ℕ
 counts_text harts lines =
     codes "harts " ++ decimal harts ++ codes " steps " ++ decimal (count_by is_step lines)
-    ++ codes " done " ++ decimal (count_by is_done lines) ++ codes " refused 0\n"
+    ++ codes " done " ++ decimal (count_by is_done lines) ++ codes " refused " ++ decimal (count_by is_refused lines) ++ codes "\n"

@@ -4,7 +4,7 @@ ghost use Rattle.region_plan.specs.Rules.{KeepsRules};
 ghost use Rattle.trace_text.specs.Lines as told;
 ghost use Rattle.trace_text.specs.Views.{line_seen, lines_seen};
 ghost use Rattle.hart_task.specs.Task.{IsLogOf};
-ghost use Rattle.forge.specs.Generated.{IsRunOf, IsCountOf, is_step, is_done};
+ghost use Rattle.forge.specs.Generated.{IsRunOf, IsCountOf, is_step, is_done, is_refused};
 
 use crate::made::{Counts, Made};
 use choice_tree::Trees;
@@ -64,7 +64,7 @@ fn counts_of(lines: &[Line]) -> Counts
         harts: u64::from(HARTS),
         steps: lines.iter().filter(|line| is_step(line)).count() as u64,
         done: lines.iter().filter(|line| is_done(line)).count() as u64,
-        refused: 0,
+        refused: lines.iter().filter(|line| is_refused(line)).count() as u64,
     }
 }
 
@@ -72,7 +72,7 @@ fn counts_of(lines: &[Line]) -> Counts
 fn is_step(line: &Line) -> bool
     ensures { result ≡ is_step (line_seen line.now) }
 {
-    matches!(line, Line::S(_) | Line::E(_))
+    matches!(line, Line::S(_) | Line::F(_) | Line::E(_))
 }
 
 /// Whether the line tells that a request is done.
@@ -80,4 +80,11 @@ fn is_done(line: &Line) -> bool
     ensures { result ≡ is_done (line_seen line.now) }
 {
     matches!(line, Line::D { .. })
+}
+
+/// Whether the line tells that a request is refused.
+fn is_refused(line: &Line) -> bool
+    ensures { result ≡ is_refused (line_seen line.now) }
+{
+    matches!(line, Line::R { .. })
 }

@@ -5,7 +5,8 @@ use Rattle.std.proofs.lemmas.Bool.Decides.{nat_tests}
 use Rattle.rv_fields.specs.Memory.{in_ram}
 use Rattle.std.proofs.lemmas.List.{map-append, length-map}
 use Rattle.rv_fields.specs.Decode.{decoded}
-use Rattle.rv_fields.specs.Step.{Effect, Retired, retired, updated, with_write}
+use Rattle.rv_fields.specs.Effect.{Effect}
+use Rattle.rv_fields.specs.Step.{Retired, retired, updated, with_write}
 use Rattle.region_plan.specs.declared.request.Request.{Request}
 use Rattle.region_plan.specs.Rules.{IsMakeable}
 use Rattle.trace_text.specs.declared.line.Line as code

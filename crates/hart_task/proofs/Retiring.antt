@@ -1,5 +1,5 @@
 -- A step of a word that memory tells.
-use Rattle.std.proofs.Common.{ℕ, ◌+◌, ◌-◌, ◌&&◌, Bool, leb, ltb, get_or, rules, ◌%◌, ◌^◌, ◌<◌, ◌≡◌, true, false, cond, eqb, eq-eqb, Option, Some, None, inl, inr, refl, sym, ap, subst, ◌∙◌, arith}
+use Rattle.std.proofs.Common.{ℕ, ◌+◌, ◌-◌, ◌&&◌, Bool, leb, ltb, get_or, rules, ◌%◌, ◌^◌, ◌<◌, ◌≡◌, true, false, cond, eqb, eq-eqb, [], Option, Some, None, inl, inr, refl, sym, ap, subst, ◌∙◌, arith}
 use Rattle.std.specs.Int.{w32, to_le_bytes}
 use Rattle.std.proofs.lemmas.Bool.Decides.{nat_tests}
 use Rattle.rv_fields.proofs.Told.{told_word}
@@ -9,7 +9,8 @@ use Rattle.rv_fields.specs.declared.row_table.Ins.TheVariants.{Addi, Add}
 use Rattle.rv_fields.specs.Attempt.{◌>>=◌}
 use Rattle.rv_fields.specs.Decode.{Decoded, decoded, ins_at}
 use Rattle.rv_fields.specs.Memory.{Seen, told, in_ram}
-use Rattle.rv_fields.specs.Step.{Hart, Effect, outcome, Retired, Stepped, behind, write_of, retired, step, with_write}
+use Rattle.rv_fields.specs.Effect.{Effect}
+use Rattle.rv_fields.specs.Step.{Hart, outcome, Retired, Stepped, behind, write_of, retired, step, with_write}
 use Rattle.region_plan.specs.declared.request.Request.{Request}
 use Rattle.region_plan.specs.declared.request.Request.TheVariants as requests
 use Rattle.region_plan.specs.Rules.{IsMakeable}
@@ -87,6 +88,19 @@ found : {A B : Type 0} (m : Option A) (f : A → Option B) (y : B) → (m >>= f)
 found None f y h = absurd cc
 found (Some a) f y h = (a, refl, h)
 
+-- what a step does that leaves memory alone, and takes no trap
+abbrev pub plain_effect : ℕ → ℕ → ℕ → ℕ → Option (ℕ × ℕ) → Effect
+plain_effect h pc pa word rd = record {
+  hart = h;
+  pc = pc;
+  pa = pa;
+  word = word;
+  rd = rd;
+  access = None;
+  trail = [];
+  trap = None;
+}
+
 -- the effect's hart, physical address and word are those of the step, and it writes a register as any instruction does
 pub record IsOf (h place word : ℕ) (r : Retired) : Type 0 where
   pub hart : r.effect.hart ≡ h
@@ -103,7 +117,7 @@ effect_is_of h pc pa word registers r e =
     let a = found (registers d.0.ops.rs1) _ r d.2 in
     let b = found (registers d.0.ops.rs2) _ r a.2 in
     let o = found (outcome d.0.ins d.0.ops pc a.0 b.0) _ r b.2 in
-    let is : (record { effect = record { hart = h; pc = pc; pa = pa; word = word; rd = write_of d.0.ops.rd o.0.value }; next = o.0.next }) ≡ r = cc in
+    let is : (record { effect = plain_effect h pc pa word (write_of d.0.ops.rd o.0.value); next = o.0.next }) ≡ r = cc in
     record {
       hart = sym (ap (λ (q : Retired). q.effect.hart) is);
       pa = sym (ap (λ (q : Retired). q.effect.pa) is);
@@ -147,7 +161,7 @@ GoesOn pc m = (q : Retired) × (m ≡ Some q) × (q.next ≡ behind pc)
 
 -- what the ending step does
 abbrev pub end_effect : ℕ → ℕ → Effect
-end_effect h pc = record { hart = h; pc = pc; pa = pc; word = 0x6f; rd = None }
+end_effect h pc = plain_effect h pc pc 0x6f None
 
 pub end_retires : (h pc : ℕ) (registers : ℕ → Option ℕ) → pc % 4 ≡ 0 → pc < 2 ^ 64 → registers 0 ≡ Some 0
     → retired h pc pc 0x6f registers ≡ Some (record { effect = end_effect h pc; next = pc })

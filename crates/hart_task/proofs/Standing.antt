@@ -5,7 +5,8 @@ use Rattle.std.proofs.lemmas.Bool.{ne_eqb, eq-eqb, cases_eq}
 use Rattle.std.specs.Option.{option_map_or, option_or}
 use Rattle.std.specs.List.{AllByRecursion}
 use Rattle.rv_fields.specs.Decode.{Decoded, decoded, ins_at, sources}
-use Rattle.rv_fields.specs.Step.{Effect, Retired, retired, updated, write_of}
+use Rattle.rv_fields.specs.Effect.{Effect}
+use Rattle.rv_fields.specs.Step.{Retired, retired, updated, write_of}
 use Rattle.rv_fields.specs.declared.row_table.Ins.TheVariants.{Jal}
 use Rattle.region_plan.specs.declared.request.Request.{Request}
 use Rattle.region_plan.specs.Work.{Work, hart_count, template_of}

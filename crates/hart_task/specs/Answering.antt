@@ -4,14 +4,14 @@ use Rattle.std.specs.List.{list_any, count_by}
 use Rattle.std.specs.Option.{option_map_or}
 use Rattle.rv_fields.specs.declared.row_table.Ins.{Ins}
 use Rattle.rv_fields.specs.Decode.{Decoded, decoded, sources}
-use Rattle.rv_fields.specs.Step.{Effect}
+use Rattle.rv_fields.specs.Effect.{Effect}
 use Rattle.region_plan.specs.declared.request.Pins.{Pins}
 use Rattle.region_plan.specs.declared.request.Request as request_of
 use Rattle.region_plan.specs.declared.request.Request.TheVariants as requests
 use Rattle.choice_tree.specs.Draws.{word_of}
 use Rattle.trace_text.specs.declared.line.Kind.{Kind}
 use Rattle.trace_text.specs.declared.line.Kind.TheVariants as kinds
-use Rattle.trace_text.specs.Lines.{Line, request, fixed, made, ending, done}
+use Rattle.trace_text.specs.Lines.{Line, request, fixed, made, found, ending, done}
 
 abbrev pub kind_of : request_of.Request → Kind
 kind_of (requests.Ins ins pins) = kinds.Ins
@@ -37,11 +37,11 @@ writes register (Some w) = w.0 == register
 
 -- the line fixes or writes the register of its hart
 abbrev pub touches : ℕ → Line → Bool
-touches register (request hart k kind) = false
 touches register (fixed hart r value) = r == register
 touches register (made e) = writes register e.rd
+touches register (found e) = writes register e.rd
 touches register (ending e) = writes register e.rd
-touches register (done hart k) = false
+touches register line = false
 
 -- Behind some lines of its hart a register is untouched where none of them fixes or writes it. x0 never is.
 abbrev pub is_untouched : List Line → ℕ → Bool
@@ -49,11 +49,8 @@ is_untouched before register = not (register == 0) && not (list_any (touches reg
 
 -- the line fixes a register
 abbrev pub is_fixing : Line → Bool
-is_fixing (request hart k kind) = false
 is_fixing (fixed hart r value) = true
-is_fixing (made e) = false
-is_fixing (ending e) = false
-is_fixing (done hart k) = false
+is_fixing line = false
 
 -- the stream from which a hart draws all but its picks
 abbrev pub stream_of : ℕ → ℕ

@@ -3,7 +3,8 @@
 use Rattle.std.specs.Prelude.{ℕ, ◌≡◌, ◌+◌, ◌^◌, ◌<◌, List, [], ◌∷◌, ◌++◌, length, filter, Option, Some, None, is_none}
 use Rattle.std.specs.Option.{option_map_or}
 use Rattle.rv_fields.specs.Decode.{Decoded, sources}
-use Rattle.rv_fields.specs.Step.{Effect, Retired, retired, updated}
+use Rattle.rv_fields.specs.Effect.{Effect}
+use Rattle.rv_fields.specs.Step.{Retired, retired, updated}
 use Rattle.region_plan.specs.declared.request.Request.{Request}
 use Rattle.region_plan.specs.declared.request.Request.TheVariants as requests
 use Rattle.region_plan.specs.Work.{Work, template_of}
@@ -131,12 +132,14 @@ Ends (begun r) left = ⊥
 Ends stepped left = ⊥
 Ends finished left = ⊥
 
+-- No hart writes a line of another kind yet.
 abbrev pub legal : HartState → Line → Type 0
 legal s (request hart k kind) = (hart ≡ s.hart) × (k ≡ s.count) × Begins s.phase s.left kind
 legal s (fixed hart register value) = Fixes s hart register value
 legal s (made e) = Makes s.phase e × StepsAt s e
 legal s (ending e) = Ends s.phase s.left × (e.word ≡ end_word) × StepsAt s e
 legal s (done hart k) = (hart ≡ s.hart) × (k ≡ s.count) × (s.phase ≡ stepped)
+legal s line = ⊥
 
 abbrev pub after : HartState → Line → HartState
 after s (request hart k kind) = with_begun s s.left
@@ -144,3 +147,4 @@ after s (fixed hart register value) = record s { registers = updated s.registers
 after s (made e) = moved s e stepped
 after s (ending e) = moved s e finished
 after s (done hart k) = record s { count = s.count + 1; phase = between }
+after s line = s

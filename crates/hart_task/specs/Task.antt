@@ -10,7 +10,8 @@ use Rattle.world_face.specs.Runs.{Runs}
 use Rattle.world_face.specs.Events.{Log, AddsEvent}
 use Rattle.boot_words.specs.Layout.{code_address}
 use Rattle.rv_fields.specs.Decode.{decoded}
-use Rattle.rv_fields.specs.Step.{Effect, behind, retired, updated, with_write}
+use Rattle.rv_fields.specs.Effect.{Effect}
+use Rattle.rv_fields.specs.Step.{behind, retired, updated, with_write}
 use Rattle.trace_text.specs.Lines.{request, fixed, made, ending, done}
 use Rattle.hart_task.specs.declared.log.HartLog.{HartLog}
 use Rattle.hart_task.specs.declared.log.Turned.{Turned}

@@ -11,7 +11,7 @@ use region_plan::Request;
 use rv_encode::encode;
 use rv_fields::{Ins, Ops};
 use rv_step::{Hart, step};
-use trace_text::StepLine;
+use trace_text::{StepLine, TrailText};
 
 /// The instruction that the request asks for.
 fn ins_of(request: Request) -> Ins
@@ -63,5 +63,8 @@ pub fn step_word(hart: &mut Hart, word: u32) -> StepLine
         pa: stepped.pa,
         word: stepped.word,
         rd: stepped.rd,
+        access: None,
+        trail: TrailText::new(),
+        trap: None,
     }
 }

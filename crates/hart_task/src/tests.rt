@@ -9,7 +9,7 @@ use rv_fields::Ins;
 use std::alloc::{AllocError, Global};
 use std::process::Abort;
 use std::test::*;
-use trace_text::{Kind, Line, StepLine};
+use trace_text::{Kind, Line, StepLine, TrailText};
 
 /// The request of an `addi` of x0.
 fn addi(rd: u8, imm: i64) -> Request
@@ -67,6 +67,9 @@ fn step_at(place: u64, word: u32, rd: Option<(u8, u64)>) -> StepLine {
         pa: place,
         word,
         rd,
+        access: None,
+        trail: TrailText::new(),
+        trap: None,
     }
 }
 

@@ -7,7 +7,8 @@ use Rattle.std.proofs.lemmas.Bool.{cases_eq, ne_eqb}
 use Rattle.std.proofs.lemmas.List.Folds.{list_any-append}
 use Rattle.std.proofs.lemmas.List.Sums.{sum_by-append}
 use Rattle.rv_fields.specs.Decode.{Decoded, decoded, sources}
-use Rattle.rv_fields.specs.Step.{Effect, updated}
+use Rattle.rv_fields.specs.Effect.{Effect}
+use Rattle.rv_fields.specs.Step.{updated}
 use Rattle.region_plan.specs.declared.request.Request.{Request}
 use Rattle.region_plan.specs.declared.request.Request.TheVariants as requests
 use Rattle.choice_tree.specs.Draws.{word_of}
@@ -357,6 +358,7 @@ answering (done h' k ∷ ls) s end stepped seed h count rs before at run fin =
     let line_is : line ≡ done h count = ap (λ q. done q k) (run.0.0 ∙ at.hart) ∙ ap (done h) (run.0.1 ∙ at.done) in
     (ls, ap (λ l. l ∷ ls) line_is, subst (λ l. AnswersFrom seed h (count + 1) rs (before ++ l ∷ []) ls) line_is more)
 answering (done h' k ∷ ls) s end finished seed h count rs before at run fin = absurd (let e : finished ≡ stepped = sym at.phase ∙ run.0.2 in cc)
+answering (other ∷ ls) s end p seed h count rs before at run fin = absurd run.0
 
 -- a run from the start of a hart to its end
 pub answers_of_run : (s end : HartState) (lines : List Line) → s.phase ≡ between → Named s.registers [] → s.drawn ≡ 0 → Runs legal after s lines end → end.phase ≡ finished

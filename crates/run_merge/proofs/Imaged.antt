@@ -3,7 +3,7 @@ use Rattle.std.proofs.Common.{ℕ, ◌+◌, ◌-◌, ◌^◌, ◌<◌, ◌≤◌
 use Rattle.std.specs.List.{AllByRecursion}
 use Rattle.std.specs.Int.{w32, to_le_bytes}
 use Rattle.rv_fields.specs.Memory.{whole, told, in_ram}
-use Rattle.rv_fields.specs.Step.{Effect}
+use Rattle.rv_fields.specs.Effect.{Effect}
 use Rattle.ram_image.specs.Pieces.{Piece, piece_byte, byte_in, laid}
 use Rattle.region_plan.specs.declared.request.Request.{Request}
 use Rattle.trace_text.specs.Lines.{Line, request, fixed, made, ending, done}
@@ -84,6 +84,7 @@ coded (ending e ∷ ls) s end h ws is_hart is_words run =
 coded (done h' k ∷ ls) s end h ws is_hart is_words run =
     let c : Coded h ws ls end = coded ls (after s (done h' k)) end h ws is_hart is_words run.1 in
     record { rest = c.rest; words = c.words; laid_out = c.laid_out; bytes = c.bytes }
+coded (other ∷ ls) s end h ws is_hart is_words run = absurd run.0
 
 -- ---- memory tells the words that are placed in it
 
@@ -151,3 +152,4 @@ tells memory (ending e ∷ ls) s end h ws is_hart is_words run room holds =
     )
 tells memory (done h' k ∷ ls) s end h ws is_hart is_words run room holds =
     (tt, tells memory ls (after s (done h' k)) end h ws is_hart is_words run.1 room holds)
+tells memory (other ∷ ls) s end h ws is_hart is_words run room holds = absurd run.0

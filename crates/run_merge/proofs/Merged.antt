@@ -55,6 +55,7 @@ own (ending e ∷ ls) s end h n is small run =
     own_line h n (ending e) ls (hart_of_step s e run.0.2 ∙ is) small (own ls (moved s e finished) end h n is small run.1)
 own (done h' k ∷ ls) s end h n is small run =
     own_line h n (done h' k) ls (run.0.0 ∙ is) small (own ls (after s (done h' k)) end h n is small run.1)
+own (other ∷ ls) s end h n is small run = absurd run.0
 
 -- a finished run of the one hart is a run of all harts
 pub one_run : (work : Work) (seed : ℕ) (lines : List Line) → hart_count work ≡ 1 → IsFinishedRun work seed 0 lines → OneRun work seed lines
@@ -235,6 +236,7 @@ fixed_once before (done h' k ∷ ls) s end h is has noted run = (
       (fixed_once (before ++ done h' k ∷ []) ls (after s (done h' k)) end h is has
       (noted_next s.registers s.registers before (done h' k) h noted (λ r none. (none, refl))) run.1),
 )
+fixed_once before (other ∷ ls) s end h is has noted run = absurd run.0
 
 pub fixes_once : (work : Work) (seed : ℕ) (lines : List Line) → IsFinishedRun work seed 0 lines → AllByRecursion (IsStarting (starting lines)) lines
 fixes_once work seed lines run = fixed_once [] lines (start work seed 0) run.end 0 refl refl (λ r none. refl) run.run

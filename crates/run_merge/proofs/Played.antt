@@ -5,10 +5,11 @@ use Rattle.rv_fields.specs.Attempt.{◌>>=◌}
 use Rattle.std.specs.Prelude.{is_none}
 use Rattle.rv_fields.specs.Decode.{decoded, sources}
 use Rattle.rv_fields.specs.Memory.{whole, told}
-use Rattle.rv_fields.specs.Step.{Hart, Effect, Retired, retired, step, updated, with_write}
+use Rattle.rv_fields.specs.Effect.{Effect}
+use Rattle.rv_fields.specs.Step.{Hart, Retired, retired, step, updated, with_write}
 use Rattle.rv_fields.specs.Play.{Machine, Plays, with_hart}
 use Rattle.region_plan.specs.declared.request.Request.{Request}
-use Rattle.trace_text.specs.Lines.{Line, request, fixed, made, ending, done, hart_of, lines_of, effects_of}
+use Rattle.trace_text.specs.Lines.{Line, request, fixed, made, found, ending, done, hart_of, lines_of, effects_of}
 use Rattle.world_face.specs.Runs.{Runs}
 use Rattle.hart_task.specs.Machine.{HartState, Phase, between, begun, stepped, finished, legal, after, with_begun, asked, untouched_of, Reads, Fixes, StepsAt, next_of, with_present, moved}
 use Rattle.hart_task.proofs.Retiring.{Extends, extends_write, effect_is_of, hart_after, step_told}
@@ -121,11 +122,10 @@ stepping memory x s e phase hart over at tells =
 
 -- the word of a step line stands in memory at its place
 abbrev pub TellsWord : (ℕ → ℕ) → Line → Type 0
-TellsWord memory (request h k kind) = Unit {0}
-TellsWord memory (fixed h register value) = Unit {0}
 TellsWord memory (made e) = told (whole memory) e.pa 4 ≡ Some (Some e.word)
+TellsWord memory (found e) = told (whole memory) e.pa 4 ≡ Some (Some e.word)
 TellsWord memory (ending e) = told (whole memory) e.pa 4 ≡ Some (Some e.word)
-TellsWord memory (done h k) = Unit {0}
+TellsWord memory line = Unit {0}
 
 -- The runs of the harts, each over its lines among these.
 unfoldable pub Running : ℕ → (ℕ → HartState) → (ℕ → HartState) → List Line → Type 0
@@ -180,10 +180,7 @@ hart-with_begun s (r ∷ rs) = refl
 
 hart-after : (s : HartState) (l : Line) → (after s l).hart ≡ s.hart
 hart-after s (request h k kind) = hart-with_begun s s.left
-hart-after s (fixed h register value) = refl
-hart-after s (made e) = refl
-hart-after s (ending e) = refl
-hart-after s (done h k) = refl
+hart-after s line = refl
 
 named_after : (n : ℕ) (states : ℕ → HartState) (l : Line) → Named n states → Named n (after_line states l)
 unfolding Named
@@ -267,3 +264,4 @@ playing n (done h k ∷ ls) starts states ends machine small runs named over fix
     playing n ls starts (after_line states (done h k)) ends machine small.1
     (others_run n states ends (done h k) ls runs) (named_after n states (done h k) named)
     (over_noted n starts states machine.harts h (after (states h) (done h k)) over here) fixes.1 tells.1
+playing n (other ∷ ls) starts states ends machine small runs named over fixes tells = absurd (first_legal n states ends other ls runs small.0)

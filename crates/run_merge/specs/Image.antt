@@ -3,8 +3,8 @@ use Rattle.std.specs.Prelude.{ℕ, suc, zero, ◌+◌, List, [], ◌∷◌, ◌+
 use Rattle.std.specs.List.{flat_map, filter_map}
 use Rattle.std.specs.Int.{w32, w64, to_le_bytes}
 use Rattle.rv_fields.specs.declared.mode.Mode.TheVariants.{S, M}
-use Rattle.rv_fields.specs.Step.{Effect}
-use Rattle.trace_text.specs.Lines.{Line, request, fixed, made, ending, done, starting}
+use Rattle.rv_fields.specs.Effect.{Effect}
+use Rattle.trace_text.specs.Lines.{Line, made, ending, starting}
 use Rattle.boot_words.specs.Layout.{dispatcher_at, boot_block_at, boot_csrs_at, boot_registers_at, m_handler_at, s_handler_at, code_start}
 use Rattle.boot_words.specs.Boot.{dispatcher, boot_block, boot_csrs, boot_registers, handler}
 use Rattle.ram_image.specs.Pieces.{Piece, filled, laid}
@@ -41,13 +41,11 @@ handler_pieces =
     ∷ record { at = s_handler_at; bytes = word_bytes (handler S) }
     ∷ []
 
--- the word that a line tells to have been made
+-- The word that a line tells to have been made. A word that is found is none: it stands in memory before.
 abbrev pub made_in : Line → Option Effect
-made_in (request hart k kind) = None
-made_in (fixed hart register value) = None
 made_in (made e) = Some e
 made_in (ending e) = Some e
-made_in (done hart k) = None
+made_in line = None
 
 abbrev pub word_piece : Effect → Piece
 word_piece e = record { at = e.pa; bytes = to_le_bytes w32 e.word }

@@ -2,29 +2,23 @@
 -- fixed late harms no earlier step.
 use Rattle.std.specs.Prelude.{ℕ, ◌≡◌, ◌<◌, ◌^◌, List, map, Option, Some}
 use Rattle.std.specs.List.{AllByRecursion}
-use Rattle.rv_fields.specs.Step.{Effect}
+use Rattle.rv_fields.specs.Effect.{Effect}
 use Rattle.rv_fields.specs.Play.{Machine, Plays}
 use Rattle.ram_image.specs.Pieces.{byte_in}
 use Rattle.region_plan.specs.Work.{Work, hart_count}
-use Rattle.trace_text.specs.Lines.{Line, request, fixed, made, ending, done, effects_of}
+use Rattle.trace_text.specs.Lines.{Line, fixed, effects_of}
 use Rattle.boot_words.specs.Startup.{IsStart}
 use Rattle.run_merge.specs.Image.{image_pieces}
 
 -- where the line fixes a register, it has the line's value
 abbrev pub HasFixed : (ℕ → ℕ → ℕ) → Line → Type 0
-HasFixed registers (request hart k kind) = Unit {0}
 HasFixed registers (fixed hart register value) = registers hart register ≡ value
-HasFixed registers (made e) = Unit {0}
-HasFixed registers (ending e) = Unit {0}
-HasFixed registers (done hart k) = Unit {0}
+HasFixed registers line = Unit {0}
 
 -- where the line fixes a register, that is the value that is told to be its starting one
 abbrev pub IsStarting : (ℕ → ℕ → Option ℕ) → Line → Type 0
-IsStarting initial (request hart k kind) = Unit {0}
 IsStarting initial (fixed hart register value) = (initial hart register ≡ Some value) × (0 < register) × (register < 32) × (value < 2 ^ 64)
-IsStarting initial (made e) = Unit {0}
-IsStarting initial (ending e) = Unit {0}
-IsStarting initial (done hart k) = Unit {0}
+IsStarting initial line = Unit {0}
 
 -- the machine has each byte that is placed and each register that is fixed, and its harts stand at their start
 pub record Starts (work : Work) (lines : List Line) (machine : Machine) : Type 0 where

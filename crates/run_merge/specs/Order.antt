@@ -1,6 +1,6 @@
 -- The order in which all harts step, their boots first.
 use Rattle.std.specs.Prelude.{ℕ, zero, suc, ◌+◌, List, [], ◌++◌, replicate}
-use Rattle.rv_fields.specs.Step.{Effect}
+use Rattle.rv_fields.specs.Effect.{Effect}
 use Rattle.run_merge.specs.Justified.{order_of}
 
 -- the steps that a hart's boot takes

@@ -1,5 +1,5 @@
 ghost use Rattle.std.specs.Prelude.{◌≡◌, IfOk, option_map};
-ghost use Rattle.rv_fields.specs.Step.{Effect};
+ghost use Rattle.rv_fields.specs.Effect.{Effect};
 ghost use Rattle.trace_text.specs.Lines.{effect_of, effects_of};
 ghost use Rattle.trace_text.specs.Views.{line_seen, lines_seen};
 ghost use Rattle.run_merge.specs.Order.{whole_order};
@@ -30,7 +30,7 @@ fn stepping_hart(line: &Line) -> Option<u8>
     ensures { result ≡ option_map (λ (e : Effect). e.hart) (effect_of (line_seen line.now)) }
 {
     match line {
-        Line::S(step) | Line::E(step) => Some(step.hart),
-        Line::Q { .. } | Line::X { .. } | Line::D { .. } => None,
+        Line::S(step) | Line::F(step) | Line::E(step) => Some(step.hart),
+        _ => None,
     }
 }

@@ -178,7 +178,7 @@ hart_at pc = record { number = 0; pc = pc; x = λ q. 0 }
 
 -- a step from the first code address goes on to 84000004 with x1 = 5
 pub steps : step (bytes_at 0x84000000 (0x93 ∷ 0 ∷ 0x50 ∷ 0 ∷ [])) (hart_at 0x84000000) ≡ Some (record {
-  effect = record { hart = 0; pc = 0x84000000; pa = 0x84000000; word = 0x00500093; rd = Some (1, 5) };
+  effect = record { hart = 0; pc = 0x84000000; pa = 0x84000000; word = 0x00500093; rd = Some (1, 5); access = None; trail = []; trap = None };
   hart = record { number = 0; pc = 0x84000004; x = updated (λ q. 0) 1 5 };
 })
 unfolding step retired ins_at
@@ -186,7 +186,7 @@ steps = refl
 
 -- a jump to itself stays at its address, and writes nothing
 pub stays : step (bytes_at 0x84000004 (0x6f ∷ 0 ∷ 0 ∷ 0 ∷ [])) (hart_at 0x84000004) ≡ Some (record {
-  effect = record { hart = 0; pc = 0x84000004; pa = 0x84000004; word = 0x0000006f; rd = None };
+  effect = record { hart = 0; pc = 0x84000004; pa = 0x84000004; word = 0x0000006f; rd = None; access = None; trail = []; trap = None };
   hart = hart_at 0x84000004;
 })
 unfolding step retired ins_at

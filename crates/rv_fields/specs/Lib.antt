@@ -10,5 +10,6 @@ pub mod Csr
 pub mod CsrFile
 pub mod Trap
 pub mod Memory
+pub mod Effect
 pub mod Step
 pub mod Play

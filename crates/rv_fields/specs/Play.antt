@@ -1,7 +1,8 @@
 -- Harts that step over one memory, in a given order.
 use Rattle.std.specs.Prelude.{ℕ, ◌≡◌, List, [], ◌∷◌, Some}
 use Rattle.rv_fields.specs.Memory.{whole}
-use Rattle.rv_fields.specs.Step.{Hart, Effect, step, updated}
+use Rattle.rv_fields.specs.Effect.{Effect}
+use Rattle.rv_fields.specs.Step.{Hart, step, updated}
 
 -- a complete memory, and harts by number
 pub record Machine : Type 0 where

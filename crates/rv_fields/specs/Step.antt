@@ -1,5 +1,5 @@
 -- One step of a hart by the tables of the RISC-V manuals.
-use Rattle.std.specs.Prelude.{ℕ, zero, suc, ◌+◌, ◌%◌, ◌^◌, pos, ◌+ℤ◌, ◌==◌, Option, Some, None, if◌then◌else◌}
+use Rattle.std.specs.Prelude.{ℕ, zero, suc, ◌+◌, ◌%◌, ◌^◌, pos, ◌+ℤ◌, ◌==◌, [], Option, Some, None, if◌then◌else◌}
 use Rattle.rv_fields.specs.declared.row_table.Ins.{Ins}
 use Rattle.rv_fields.specs.declared.row_table.Ins.TheVariants.{Jal}
 use Rattle.rv_fields.specs.declared.row_table.Ops.{Ops}
@@ -8,21 +8,13 @@ use Rattle.rv_fields.specs.Immediate.{wrapped}
 use Rattle.rv_fields.specs.Decode.{decoded}
 use Rattle.rv_fields.specs.Meaning.{is_alu, computed, is_branch, is_taken}
 use Rattle.rv_fields.specs.Memory.{Seen, told}
+use Rattle.rv_fields.specs.Effect.{Effect}
 
 -- A hart: its number, the address of its next instruction, and its registers x0 to x31, of which x0 is 0.
 pub record Hart : Type 0 where
   pub number : ℕ
   pub pc : ℕ
   pub x : ℕ → ℕ
-
--- What a step does, as a trace tells it: the hart, the virtual and the physical address of the word, the
--- word, and the register that it writes with its new value (none where that is x0).
-pub record Effect : Type 0 where
-  pub hart : ℕ
-  pub pc : ℕ
-  pub pa : ℕ
-  pub word : ℕ
-  pub rd : Option (ℕ × ℕ)
 
 -- the value that an instruction gives to its rd, and the address of the next instruction
 pub record Outcome : Type 0 where
@@ -69,7 +61,16 @@ retired hart pc pa word registers = do
   b ← registers d.ops.rs2
   o ← outcome d.ins d.ops pc a b
   Some (record {
-    effect = record { hart = hart; pc = pc; pa = pa; word = word; rd = write_of d.ops.rd o.value };
+    effect = record {
+      hart = hart;
+      pc = pc;
+      pa = pa;
+      word = word;
+      rd = write_of d.ops.rd o.value;
+      access = None;
+      trail = [];
+      trap = None;
+    };
     next = o.next;
   })
 

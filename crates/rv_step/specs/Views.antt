@@ -1,5 +1,6 @@
 -- What the types of this crate are in the definitions of the machine.
-use Rattle.std.specs.Prelude.{ℕ, slice_index}
+use Rattle.std.specs.Prelude.{ℕ, [], None, slice_index}
+use Rattle.rv_fields.specs.Effect.{Effect}
 use Rattle.rv_fields.specs.Step as machine
 use Rattle.rv_step.specs.declared.hart.Hart.{Hart}
 use Rattle.rv_step.specs.declared.hart.Stepped.{Stepped}
@@ -10,8 +11,8 @@ abbrev pub hart_seen : Hart → machine.Hart
 hart_seen h = record { number = h.number; pc = h.pc; x = λ r. slice_index h.x r }
 
 -- what a step of the hart of this number did
-abbrev pub effect_seen : ℕ → Stepped → machine.Effect
-effect_seen hart s = record { hart = hart; pc = s.pc; pa = s.pa; word = s.word; rd = s.rd }
+abbrev pub effect_seen : ℕ → Stepped → Effect
+effect_seen hart s = record { hart = hart; pc = s.pc; pa = s.pa; word = s.word; rd = s.rd; access = None; trail = []; trap = None }
 
 abbrev pub outcome_seen : Outcome → machine.Outcome
 outcome_seen o = record { value = o.value; next = o.next }

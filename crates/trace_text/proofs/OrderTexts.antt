@@ -15,7 +15,7 @@ use Rattle.trace_text.specs.Text.{Turns, with_turn, turns_of, turns_text, space,
 use Rattle.trace_text.specs.Numbers.{decimal_below}
 use Rattle.trace_text.specs.Fields.{lines_of_text, fields_of, fault_from, wrong_in, wrong_at_end, first_fault}
 use Rattle.trace_text.specs.Orders.{order_form, nothing, turns, steps_of, number_in, is_another_hart, is_decimal, most_steps}
-use Rattle.trace_text.proofs.Decimals as decimals
+use Rattle.trace_text.proofs.Numerals.{again}
 use Rattle.trace_text.proofs.Faults.{step}
 
 abbrev Lacks : ℕ → List ℕ → Type 0
@@ -36,9 +36,7 @@ pub value_of_decimal : (n : ℕ) → n < 2 ^ 64 → digits_value 10 (decimal n) 
 value_of_decimal n small = (decimal_is_IsNumeral n small).1
 
 pub reads_again : (bound n : ℕ) → n < bound → n < 2 ^ 64 → decimal_below bound (decimal n) ≡ Some n
-reads_again bound n below small =
-    let value : digits_value 10 (decimal n) ≡ n = value_of_decimal n small in
-    decimals.spelled bound (decimal n) (omega arith) (ap decimal value) ∙ ap Some value
+reads_again bound n below small = again decimal 10 bound n (value_of_decimal n small) below
 
 -- a line of an order without its newline
 abbrev pub turns_line : Turns → List ℕ

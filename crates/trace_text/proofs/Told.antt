@@ -13,7 +13,7 @@ use Rattle.trace_text.specs.Text.{Turns, with_turn, turns_of, turns_text, order_
 use Rattle.trace_text.specs.Numbers.{decimal_below}
 use Rattle.trace_text.specs.Fields.{Test, Place, lines_of_text, fields_of, fault_from, wrong_in, first_wrong, first_fault}
 use Rattle.trace_text.specs.Orders.{IsOrder, order_form, nothing, turns, steps_of, number_in, is_another_hart, is_decimal, is_word, most_steps, order_fault, order_told, harts_told}
-use Rattle.trace_text.proofs.Decimals as decimals
+use Rattle.trace_text.proofs.Numerals as numerals
 use Rattle.trace_text.proofs.OrderTexts.{AreTurns, Another, Begins, turns_line, steps_in, steps_more}
 use Rattle.trace_text.proofs.Runs.{run}
 
@@ -58,8 +58,8 @@ hart_spelled : (harts : ℕ) (last : Option ℕ) (field : List ℕ) (o : Option 
     → Spells 0 harts field × Another last (digits_value 10 field)
 hart_spelled harts last field None is test = absurd (false≢true test)
 hart_spelled harts last field (Some hart) is test =
-    let parts = decimals.found harts hart field is in (
-      record { text = parts.2; some = omega arith; below = omega (arith, parts.0, parts.1) },
+    let parts = numerals.found decimal 10 harts field hart is in (
+      record { text = ap decimal parts.0 ∙ parts.2; some = omega arith; below = omega (arith, parts.0, parts.1) },
       subst (Another last) (sym parts.0) (another_from last hart test),
     )
 
@@ -67,9 +67,9 @@ count_spelled : (bound : ℕ) (field : List ℕ) (o : Option ℕ) → decimal_be
     → option_map_or (λ n. not (nat_lt n 1)) o false ≡ true → Spells 1 bound field
 count_spelled bound field None is test = absurd (false≢true test)
 count_spelled bound field (Some n) is test =
-    let parts = decimals.found bound n field is in
+    let parts = numerals.found decimal 10 bound field n is in
     let some : 1 ≤ n = ltb-false n 1 (not-true (nat_lt n 1) test) in
-    record { text = parts.2; some = omega (arith, parts.0); below = omega (arith, parts.0, parts.1) }
+    record { text = ap decimal parts.0 ∙ parts.2; some = omega (arith, parts.0); below = omega (arith, parts.0, parts.1) }
 
 -- Lines without a fault, and the turns that they tell.
 

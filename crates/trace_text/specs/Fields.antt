@@ -58,8 +58,3 @@ fault_from form known line (first ∷ next ∷ lines) =
 
 abbrev pub fault_of : {Known : Type 0} → Form Known → Known → List ℕ → Option Place
 fault_of form known text = fault_from form known 1 (lines_of_text text)
-
--- the fields that are left of a line, where any are
-abbrev pub fields_left : Option (List ℕ) → List (List ℕ)
-fields_left None = []
-fields_left (Some rest) = fields_of rest

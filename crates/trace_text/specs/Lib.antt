@@ -1,3 +1,5 @@
+pub mod Trails
+pub mod Parts
 pub mod Lines
 pub mod Views
 pub mod Text
@@ -5,3 +7,7 @@ pub mod Numbers
 pub mod Fields
 pub mod Orders
 pub mod Reading
+pub mod Readings
+pub mod Traces
+pub mod Taking
+pub mod LineReading

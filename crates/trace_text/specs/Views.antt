@@ -1,20 +1,44 @@
 -- The lines that the types of this crate hold.
-use Rattle.std.specs.Prelude.{List, map}
-use Rattle.rv_fields.specs.Step.{Effect}
+use Rattle.std.specs.Prelude.{List, map, option_map}
+use Rattle.rv_fields.specs.Effect as effect
+use Rattle.trace_text.specs.declared.line.AccessText.{AccessText}
+use Rattle.trace_text.specs.declared.line.TrapText.{TrapText}
 use Rattle.trace_text.specs.declared.line.StepLine.{StepLine}
 use Rattle.trace_text.specs.declared.line.Line as code
-use Rattle.trace_text.specs.declared.line.Line.TheVariants.{Q, X, S, E, D}
-use Rattle.trace_text.specs.Lines.{Line, request, fixed, made, ending, done}
+use Rattle.trace_text.specs.declared.line.Line.TheVariants.{Q, P, W, X, G, M, Y, S, F, E, D, R}
+use Rattle.trace_text.specs.Lines.{Line, request, picked, weighed, fixed, given, settled, touched, made, found, ending, done, refused}
 
-abbrev pub effect_seen : StepLine → Effect
-effect_seen s = record { hart = s.hart; pc = s.pc; pa = s.pa; word = s.word; rd = s.rd }
+abbrev pub access_seen : AccessText → effect.Access
+access_seen a = record { kind = a.kind; virtual = a.va; physical = a.pa; size = a.size; read = a.read; wrote = a.wrote }
+
+abbrev pub trap_seen : TrapText → effect.TrapTaken
+trap_seen t = record { cause = t.cause; epc = t.epc; tval = t.tval; mode = t.to }
+
+abbrev pub effect_seen : StepLine → effect.Effect
+effect_seen s = record {
+  hart = s.hart;
+  pc = s.pc;
+  pa = s.pa;
+  word = s.word;
+  rd = s.rd;
+  access = option_map access_seen s.access;
+  trail = s.trail;
+  trap = option_map trap_seen s.trap;
+}
 
 abbrev pub line_seen : code.Line → Line
 line_seen (Q hart k kind) = request hart k kind
-line_seen (X hart reg value) = fixed hart reg value
+line_seen (P hart tree leaf drawn) = picked hart tree leaf drawn
+line_seen (W hart tree path weight) = weighed hart tree path.items weight
+line_seen (X hart register value) = fixed hart register value
+line_seen (G hart object page frame) = given hart object page frame
+line_seen (M hart space at pte) = settled hart space (record { at = at; pte = pte })
+line_seen (Y hart at bytes) = touched hart at bytes.items
 line_seen (S step) = made (effect_seen step)
+line_seen (F step) = found (effect_seen step)
 line_seen (E step) = ending (effect_seen step)
 line_seen (D hart k) = done hart k
+line_seen (R hart k cause preamble) = refused hart k cause preamble
 
 abbrev pub lines_seen : List code.Line → List Line
 lines_seen lines = map line_seen lines

@@ -1,18 +1,29 @@
 //! What `{}` shows of a trace's lines and of their parts.
-ghost use Rattle.std.specs.Prelude.{Some};
-ghost use Rattle.trace_text.specs.Text.{kind_text, word_text, rd_text, step_text, line_body};
-ghost use Rattle.trace_text.specs.Views.{effect_seen, line_seen};
+ghost use Rattle.std.specs.Prelude.{◌≡◌, ◌<◌, ℕ, List, [], ◌∷◌, map, Some};
+ghost use Rattle.std.specs.Option.{option_map_or};
+ghost use Rattle.std.specs.List.{flat_map};
+ghost use Rattle.std.specs.Fmt.{WritesOnOk};
+ghost use Rattle.trace_text.specs.Trails.{entry_seen};
+ghost use Rattle.trace_text.specs.Text.{slash, hex, word_text, byte_text, letter_text, none_text, write_text, access_text, entry_text, trail_text, trap_text, joined_by, space_byte, step_fields, line_body};
+ghost use Rattle.trace_text.specs.Lines.{hart_of};
+ghost use Rattle.trace_text.specs.Views.{access_seen, trap_seen, effect_seen, line_seen};
 
-use crate::line::{Kind, Line, StepLine};
+use crate::entry::EntryText;
+use crate::line::{AccessText, Line, StepLine, TrapText};
+use crate::trail::TrailText;
+use rv_fields::Name;
 use std::fmt;
 
-impl fmt::Display for Kind {
-    ghost output = { λ kind. Some (kind_text kind) };
+/// A number, which is shown in hexadecimal digits.
+#[derive(Clone, Copy)]
+struct Hex(u64);
+
+impl fmt::Display for Hex {
+    ghost output = { λ number. Some (hex number.0) };
 
     fn fmt<W: fmt::Write>(&self, f: &mut fmt::Formatter<W>) -> fmt::Result {
-        match self {
-            Kind::Ins => write!(f, "ins"),
-        }
+        let number = self.0;
+        write!(f, "{number:x}")
     }
 }
 
@@ -23,31 +34,158 @@ struct Word(u32);
 impl fmt::Display for Word {
     ghost output = { λ word. Some (word_text word.0) };
 
-    #[tactic(auto, using(crate::proofs::Words::padded_word))]
+    #[tactic(auto, using(crate::proofs::Digits::padded_hex))]
     fn fmt<W: fmt::Write>(&self, f: &mut fmt::Formatter<W>) -> fmt::Result {
         let word = self.0;
         write!(f, "{word:08x}")
     }
 }
 
-/// The register that a step wrote, with its new value; `-` where it wrote none.
+/// Bytes, each of which is shown in two hexadecimal digits.
 #[derive(Clone, Copy)]
-struct Written(Option<(u8, u64)>);
+struct Bytes<'a>(&'a [u8]);
 
-impl fmt::Display for Written {
-    ghost output = { λ written. Some (rd_text written.0) };
+impl fmt::Display for Bytes<'_> {
+    ghost output = { λ bytes. Some (flat_map byte_text bytes.0.now) };
 
     fn fmt<W: fmt::Write>(&self, f: &mut fmt::Formatter<W>) -> fmt::Result {
-        match self.0 {
-            Some((register, value)) => write!(f, "{register}:{value:x}"),
+        for byte in self.0 {
+            write!(f, "{byte:02x}")?;
+        }
+        Ok(())
+    }
+}
+
+/// Shows the parts, with the separator between each two.
+fn show_joined<W: fmt::Write, T: fmt::Display>(
+    f: &mut fmt::Formatter<W>,
+    parts: &[T],
+    separator: char,
+) -> fmt::Result
+    requires ascii { separator < 128 }
+    ensures { (text : T → List ℕ) → ((part : T) → T.output part ≡ Some (text part))
+        → WritesOnOk W.write_str_gives f.old result (joined_by separator (map text parts.now)) f.new }
+{
+    if let [first, rest @ ..] = parts {
+        first.fmt(f)?;
+        for part in rest {
+            f.write_char(separator)?;
+            part.fmt(f)?;
+        }
+    }
+    Ok(())
+}
+
+/// The labels of a path.
+#[derive(Clone, Copy)]
+struct Path<'a>(&'a [Name]);
+
+impl fmt::Display for Path<'_> {
+    ghost output = { λ path. Some (joined_by slash path.0.now) };
+
+    fn fmt<W: fmt::Write>(&self, f: &mut fmt::Formatter<W>) -> fmt::Result {
+        show_joined(f, self.0, '/')
+    }
+}
+
+/// A letter, as its ASCII byte.
+#[derive(Clone, Copy)]
+struct Letter(u8);
+
+impl fmt::Display for Letter {
+    ghost output = { λ letter. Some (letter_text letter.0) };
+
+    fn fmt<W: fmt::Write>(&self, f: &mut fmt::Formatter<W>) -> fmt::Result {
+        f.write_char(char::from(self.0))
+    }
+}
+
+/// What is shown as `-` where there is nothing.
+#[derive(Clone, Copy)]
+struct OrNone<T>(Option<T>);
+
+impl<T: fmt::Display> fmt::Display for OrNone<T> {
+    ghost output = { λ shown. option_map_or T.output shown.0 (Some none_text) };
+
+    fn fmt<W: fmt::Write>(&self, f: &mut fmt::Formatter<W>) -> fmt::Result {
+        match &self.0 {
+            Some(value) => value.fmt(f),
             None => write!(f, "-"),
         }
     }
 }
 
+/// A register that is written, and its new value.
+#[derive(Clone, Copy)]
+struct Written((u8, u64));
+
+impl fmt::Display for Written {
+    ghost output = { λ written. Some (write_text written.0) };
+
+    fn fmt<W: fmt::Write>(&self, f: &mut fmt::Formatter<W>) -> fmt::Result {
+        let (register, value) = self.0;
+        write!(f, "{register}:{value:x}")
+    }
+}
+
+impl fmt::Display for AccessText {
+    ghost output = { λ access. Some (access_text (access_seen access)) };
+
+    fn fmt<W: fmt::Write>(&self, f: &mut fmt::Formatter<W>) -> fmt::Result {
+        let AccessText {
+            kind,
+            va,
+            pa,
+            size,
+            read,
+            wrote,
+        } = *self;
+        let kind = Letter(kind);
+        let read = OrNone(read.map(Hex));
+        let wrote = OrNone(wrote.map(Hex));
+        write!(f, "{kind}:{va:x}:{pa:x}")?;
+        write!(f, ":{size}:{read}:{wrote}")
+    }
+}
+
+impl fmt::Display for EntryText {
+    ghost output = { λ entry. Some (entry_text (entry_seen entry)) };
+
+    fn fmt<W: fmt::Write>(&self, f: &mut fmt::Formatter<W>) -> fmt::Result {
+        let EntryText { at, pte } = *self;
+        write!(f, "{at:x}:{pte:x}")
+    }
+}
+
+impl fmt::Display for TrailText {
+    ghost output = { λ trail. Some (trail_text trail) };
+
+    fn fmt<W: fmt::Write>(&self, f: &mut fmt::Formatter<W>) -> fmt::Result {
+        match self.entries() {
+            [] => write!(f, "-"),
+            entries => show_joined(f, entries, ','),
+        }
+    }
+}
+
+impl fmt::Display for TrapText {
+    ghost output = { λ trap. Some (trap_text (trap_seen trap)) };
+
+    fn fmt<W: fmt::Write>(&self, f: &mut fmt::Formatter<W>) -> fmt::Result {
+        let TrapText {
+            cause,
+            epc,
+            tval,
+            to,
+        } = *self;
+        let to = Letter(to);
+        write!(f, "{cause}:{epc:x}:{tval:x}:{to}")
+    }
+}
+
 /// Shows the fields of a step line, from the hart on, parted by single spaces.
 impl fmt::Display for StepLine {
-    ghost output = { λ step. Some (step_text (effect_seen step)) };
+    ghost output = { λ step. Some (joined_by space_byte (step_fields (effect_seen step))) };
 
     fn fmt<W: fmt::Write>(&self, f: &mut fmt::Formatter<W>) -> fmt::Result {
         let StepLine {
@@ -56,11 +194,37 @@ impl fmt::Display for StepLine {
             pa,
             word,
             rd,
+            access,
+            trail,
+            trap,
         } = *self;
         let word = Word(word);
-        let written = Written(rd);
+        let rd = OrNone(rd.map(Written));
+        let access = OrNone(access);
+        let trap = OrNone(trap);
         write!(f, "{hart} {pc:x} {pa:x}")?;
-        write!(f, " {word} {written} - - -")
+        write!(f, " {word} {rd} {access}")?;
+        write!(f, " {trail} {trap}")
+    }
+}
+
+impl Line {
+    /// The hart that the line is of.
+    fn hart(&self) -> u8
+        ensures { result ≡ hart_of (line_seen self.now) }
+    {
+        match self {
+            Line::Q { hart, .. }
+            | Line::P { hart, .. }
+            | Line::W { hart, .. }
+            | Line::X { hart, .. }
+            | Line::G { hart, .. }
+            | Line::M { hart, .. }
+            | Line::Y { hart, .. }
+            | Line::D { hart, .. }
+            | Line::R { hart, .. } => *hart,
+            Line::S(step) | Line::F(step) | Line::E(step) => step.hart,
+        }
     }
 }
 
@@ -69,12 +233,35 @@ impl fmt::Display for Line {
     ghost output = { λ line. Some (line_body (line_seen line)) };
 
     fn fmt<W: fmt::Write>(&self, f: &mut fmt::Formatter<W>) -> fmt::Result {
-        match *self {
-            Line::Q { hart, k, kind } => write!(f, "q {hart} {k} {kind}"),
-            Line::X { hart, reg, value } => write!(f, "x {hart} {reg} {value:x}"),
+        let hart = self.hart();
+        match self {
+            Line::Q { k, kind, .. } => write!(f, "q {hart} {k} {kind}"),
+            Line::P {
+                tree,
+                leaf,
+                word16,
+                ..
+            } => write!(f, "p {hart} {tree} {leaf} {word16:x}"),
+            Line::W {
+                tree,
+                path,
+                weight,
+                ..
+            } => write!(f, "w {hart} {tree} {} {weight}", Path(path)),
+            Line::X { reg, value, .. } => write!(f, "x {hart} {reg} {value:x}"),
+            Line::G {
+                object,
+                page,
+                frame,
+                ..
+            } => write!(f, "g {hart} {object} {page} {frame}"),
+            Line::M { space, at, pte, .. } => write!(f, "m {hart} {space} {at:x} {pte:x}"),
+            Line::Y { at, bytes, .. } => write!(f, "y {hart} {at:x} {}", Bytes(bytes)),
             Line::S(step) => write!(f, "s {step}"),
+            Line::F(step) => write!(f, "f {step}"),
             Line::E(step) => write!(f, "e {step}"),
-            Line::D { hart, k } => write!(f, "d {hart} {k}"),
+            Line::D { k, .. } => write!(f, "d {hart} {k}"),
+            Line::R { k, cause, pre, .. } => write!(f, "r {hart} {k} {cause} {pre}"),
         }
     }
 }

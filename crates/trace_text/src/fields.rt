@@ -1,85 +1,309 @@
-//! Lines, fields and the numbers that they spell.
-ghost use Rattle.std.specs.Prelude.{◌≡◌, ◌==◌, ◌<◌, ◌^◌, true, false, [], ◌∷◌, length, position, MatchOption, IfSome};
+//! The fields of a line, taken one after another.
+ghost use Rattle.std.specs.Prelude.{◌≡◌, ◌+◌, ◌<◌, ◌≤◌, ◌^◌, [], true, List, ℕ, MatchResult, IfSome, length, option_map};
+ghost use Rattle.std.specs.List.{flat_map, AllByRecursion};
+ghost use Rattle.std.specs.Fmt.{decimal};
 ghost use Rattle.std.specs.Str.Parse.{digits_value};
-ghost use Rattle.std.specs.List.{slice_split};
-ghost use Rattle.std.specs.Option.{option_map};
-ghost use Rattle.trace_text.specs.Fields.{fields_of, fields_left};
-ghost use Rattle.trace_text.specs.Numbers.{decimal_below, is_plain};
-ghost use Rattle.trace_text.specs.Orders.{is_word, is_decimal};
+ghost use Rattle.trace_text.specs.Text.{hex, word_text, kind_text, cause_text, or_none, write_text, access_text, trail_text, trap_text, joined_by, slash, byte_text};
+ghost use Rattle.trace_text.specs.Fields.{fields_of};
+ghost use Rattle.trace_text.specs.Numbers.{decimal_below, word_of};
+ghost use Rattle.trace_text.specs.Readings.{hex_of, count_of, kind_of, cause_of, number_of, preambles, name_of, register_of, space_of, path_of, bytes_of, optional, write_of, access_of, trail_of, trap_of};
+ghost use Rattle.trace_text.specs.Traces.{IsAnyOf, IsName, IsPath, AreBytes, IsWrite, IsAccess, IsEntry, IsTrap};
+ghost use Rattle.trace_text.specs.Views.{access_seen, trap_seen};
+ghost use Rattle.trace_text.specs.Orders.{is_word, is_decimal, is_another_hart};
+ghost use Rattle.trace_text.specs.Taking.{left, Took, Takes, Lacks, Leaves};
 
-/// What stands before the first such byte, and what stands behind it; none where the bytes lack it.
-pub(crate) fn cut(bytes: &[u8], byte: u8) -> Option<(&[u8], &[u8])>
-    ensures parts { let split = slice_split (λ b. b == byte) in
-        MatchOption result (split bytes.now ≡ bytes.now ∷ [])
-        (λ parts. split bytes.now ≡ parts.0.now ∷ split parts.1.now) }
-    ensures shorter { IfSome result (λ parts. length parts.1.now < length bytes.now) }
-{
-    let at = place_of(bytes, byte)?;
-    Some((&bytes[..at], &bytes[at + 1..]))
+use crate::fault::LineFault;
+use crate::line::{AccessText, Cause, Kind, TrapText};
+use crate::parts::Parts;
+use crate::trail::TrailText;
+use crate::{numbers, readings};
+use rv_fields::{Name, name_of};
+use std::alloc::Global;
+
+/// The fields of a line, taken one after another.
+#[derive(Clone, Copy)]
+pub(crate) struct Fields<'a> {
+    /// The number of the line, from 1 on.
+    line: u64,
+    /// The number of the next field, from 1 on.
+    number: u32,
+    parts: Parts<'a>,
 }
 
-/// The first field of a line, and what stands behind the space that ends it.
-pub(crate) fn first_field(line: &[u8]) -> (&[u8], Option<&[u8]>)
-    ensures { fields_of line.now ≡ result.0.now ∷ fields_left (option_map (λ rest. rest.now) result.1) }
-{
-    match cut(line, b' ') {
-        Some((field, rest)) => (field, Some(rest)),
-        None => (line, None),
+impl<'a> Fields<'a> {
+    pub(crate) fn of(line: u64, text: &'a [u8]) -> Fields<'a>
+        ensures { (left result ≡ fields_of text.now) × (result.line ≡ line) × (result.number ≡ 1) }
+    {
+        Fields {
+            line,
+            number: 1,
+            parts: Parts::of(text, b' '),
+        }
     }
-}
 
-/// The number below the bound that the field spells in decimal digits.
-pub(crate) fn decimal_below(field: &[u8], bound: u64) -> Option<u64>
-    ensures { result ≡ decimal_below bound field.now }
-{
-    let number = plain_decimal(field)?;
-    if number < bound { Some(number) } else { None }
-}
-
-/// The number from 1 on and below the bound that the field spells in decimal digits.
-pub(crate) fn count_below(field: &[u8], bound: usize) -> Option<usize>
-    ensures { MatchOption result (is_decimal 1 bound field.now ≡ false)
-        (λ count. (is_decimal 1 bound field.now ≡ true) × (0 < count) × (count < bound) × (count ≡ digits_value 10 field.now)) }
-{
-    let count = decimal_below(field, bound as u64)? as usize;
-    if count == 0 { None } else { Some(count) }
-}
-
-/// Whether the field is this word.
-pub(crate) fn is_word(field: &[u8], word: &str) -> bool
-    ensures { result ≡ is_word word.now field.now }
-{
-    field == word.as_bytes()
-}
-
-/// The number of 64 bits that the field spells in decimal digits without a leading zero.
-fn plain_decimal(field: &[u8]) -> Option<u64>
-    ensures { result ≡ decimal_below (2 ^ 64) field.now }
-{
-    if !is_plain(field) {
-        return None;
+    /// The fault that the next field is wrong, missing or too many.
+    pub(crate) fn fault(&self) -> LineFault
+        ensures { result ≡ LineFault.At self.now.line self.now.number }
+    {
+        LineFault::At {
+            line: self.line,
+            field: self.number,
+        }
     }
-    let Ok(text) = std::str::from_utf8(field) else {
-        return None;
-    };
-    match text.parse() {
-        Ok(number) => Some(number),
-        Err(_) => None,
-    }
-}
 
-/// Whether the field begins with no plus sign, and with a zero only where nothing follows.
-fn is_plain(field: &[u8]) -> bool
-    ensures { result ≡ is_plain field.now }
-{
-    match field {
-        [] => true,
-        [first, rest @ ..] => *first != b'+' && (*first != b'0' || rest.is_empty()),
+    /// The end of the line.
+    pub(crate) fn end(&self) -> Result<(), LineFault>
+        ensures { MatchResult result (λ end. left self.now ≡ []) (λ fault. Leaves self.now fault) }
+    {
+        let mut parts = self.parts;
+        match parts.next() {
+            Some(_) => Err(self.fault()),
+            None => Ok(()),
+        }
     }
-}
 
-fn place_of(bytes: &[u8], byte: u8) -> Option<usize>
-    ensures { result ≡ position (λ b. b == byte) bytes.now }
-{
-    bytes.iter().position(|b| *b == byte)
+    /// A hart below this number.
+    pub(crate) fn hart(&mut self, harts: u8) -> Result<u8, LineFault>
+        requires { self.old.number < 100 }
+        ensures { Takes (decimal_below harts) decimal (λ h. h < harts) (λ v. v) self.old self.new result }
+    {
+        let fault = self.fault();
+        let field = self.parts.next().ok_or(fault)?;
+        let told = numbers::decimal_below(field, u64::from(harts)).ok_or(fault)?;
+        self.number += 1;
+        Ok(told as u8)
+    }
+
+    /// A number that counts something.
+    pub(crate) fn count(&mut self) -> Result<u32, LineFault>
+        requires { self.old.number < 100 }
+        ensures { Takes count_of decimal (λ n. n < 2 ^ 32) (λ v. v) self.old self.new result }
+    {
+        let fault = self.fault();
+        let field = self.parts.next().ok_or(fault)?;
+        let told = readings::count_of(field).ok_or(fault)?;
+        self.number += 1;
+        Ok(told)
+    }
+
+    /// A number in hexadecimal digits.
+    pub(crate) fn hex(&mut self) -> Result<u64, LineFault>
+        requires { self.old.number < 100 }
+        ensures { Takes hex_of hex (λ n. n < 2 ^ 64) (λ v. v) self.old self.new result }
+    {
+        let fault = self.fault();
+        let field = self.parts.next().ok_or(fault)?;
+        let told = numbers::hex_of(field).ok_or(fault)?;
+        self.number += 1;
+        Ok(told)
+    }
+
+    /// A word.
+    pub(crate) fn word(&mut self) -> Result<u32, LineFault>
+        requires { self.old.number < 100 }
+        ensures { Takes word_of word_text (λ w. w < 2 ^ 32) (λ v. v) self.old self.new result }
+    {
+        let fault = self.fault();
+        let field = self.parts.next().ok_or(fault)?;
+        let told = numbers::word_of(field).ok_or(fault)?;
+        self.number += 1;
+        Ok(told)
+    }
+
+    /// A register, x1 to x31.
+    pub(crate) fn register(&mut self) -> Result<u32, LineFault>
+        requires { self.old.number < 100 }
+        ensures { Takes register_of decimal (λ r. (1 ≤ r) × (r < 32)) (λ v. v) self.old self.new result }
+    {
+        let fault = self.fault();
+        let field = self.parts.next().ok_or(fault)?;
+        let told = readings::register_of(field).ok_or(fault)?;
+        self.number += 1;
+        Ok(told.into())
+    }
+
+    /// An address space.
+    pub(crate) fn space(&mut self) -> Result<u32, LineFault>
+        requires { self.old.number < 100 }
+        ensures { Takes space_of decimal (λ s. s < 16) (λ v. v) self.old self.new result }
+    {
+        let fault = self.fault();
+        let field = self.parts.next().ok_or(fault)?;
+        let told = numbers::decimal_below(field, 16).ok_or(fault)?;
+        self.number += 1;
+        Ok(told as u32)
+    }
+
+    /// The number of words of a preamble.
+    pub(crate) fn preamble(&mut self) -> Result<u32, LineFault>
+        requires { self.old.number < 100 }
+        ensures { Takes (number_of preambles) decimal (IsAnyOf preambles) (λ v. v) self.old self.new result }
+    {
+        let fault = self.fault();
+        let field = self.parts.next().ok_or(fault)?;
+        let told = readings::preamble_of(field).ok_or(fault)?;
+        self.number += 1;
+        Ok(told)
+    }
+
+    /// The kind of a request.
+    pub(crate) fn kind(&mut self) -> Result<Kind, LineFault>
+        requires { self.old.number < 100 }
+        ensures { Takes kind_of kind_text (λ kind. Unit {0}) (λ v. v) self.old self.new result }
+    {
+        let fault = self.fault();
+        let field = self.parts.next().ok_or(fault)?;
+        let told = readings::kind_of(field).ok_or(fault)?;
+        self.number += 1;
+        Ok(told)
+    }
+
+    /// The cause of a refusal.
+    pub(crate) fn cause(&mut self) -> Result<Cause, LineFault>
+        requires { self.old.number < 100 }
+        ensures { Takes cause_of cause_text (λ cause. Unit {0}) (λ v. v) self.old self.new result }
+    {
+        let fault = self.fault();
+        let field = self.parts.next().ok_or(fault)?;
+        let told = readings::cause_of(field).ok_or(fault)?;
+        self.number += 1;
+        Ok(told)
+    }
+
+    /// A name.
+    pub(crate) fn name(&mut self) -> Result<Name, LineFault>
+        requires { self.old.number < 100 }
+        ensures { Takes name_of (λ name. name) IsName (λ v. v) self.old self.new result }
+    {
+        let fault = self.fault();
+        let field = self.parts.next().ok_or(fault)?;
+        let told = name_of(field).ok_or(fault)?;
+        self.number += 1;
+        Ok(told)
+    }
+
+    /// The register that a step wrote, where it wrote one.
+    pub(crate) fn write(&mut self) -> Result<Option<(u8, u64)>, LineFault>
+        requires { self.old.number < 100 }
+        ensures { Takes (optional write_of) (or_none write_text) (λ write. IfSome write IsWrite) (λ v. v) self.old self.new result }
+    {
+        let fault = self.fault();
+        let field = self.parts.next().ok_or(fault)?;
+        let told = readings::optional_write_of(field).ok_or(fault)?;
+        self.number += 1;
+        Ok(told)
+    }
+
+    /// What a step read or wrote in memory, where it did.
+    pub(crate) fn access(&mut self) -> Result<Option<AccessText>, LineFault>
+        requires { self.old.number < 100 }
+        ensures { Takes (optional access_of) (or_none access_text) (λ access. IfSome access IsAccess) (λ access. option_map access_seen access) self.old self.new result }
+    {
+        let fault = self.fault();
+        let field = self.parts.next().ok_or(fault)?;
+        let told = readings::optional_access_of(field).ok_or(fault)?;
+        self.number += 1;
+        Ok(told)
+    }
+
+    /// The page table entries by which an address is translated.
+    pub(crate) fn trail(&mut self) -> Result<TrailText, LineFault>
+        requires { self.old.number < 100 }
+        ensures { Takes trail_of trail_text (λ trail. (length trail ≤ 4) × AllByRecursion IsEntry trail) (λ v. v) self.old self.new result }
+    {
+        let fault = self.fault();
+        let field = self.parts.next().ok_or(fault)?;
+        let told = readings::trail_of(field).ok_or(fault)?;
+        self.number += 1;
+        Ok(told)
+    }
+
+    /// The trap that a step took, where it took one.
+    pub(crate) fn trap(&mut self) -> Result<Option<TrapText>, LineFault>
+        requires { self.old.number < 100 }
+        ensures { Takes (optional trap_of) (or_none trap_text) (λ trap. IfSome trap IsTrap) (λ trap. option_map trap_seen trap) self.old self.new result }
+    {
+        let fault = self.fault();
+        let field = self.parts.next().ok_or(fault)?;
+        let told = readings::optional_trap_of(field).ok_or(fault)?;
+        self.number += 1;
+        Ok(told)
+    }
+
+    /// The labels of a path.
+    pub(crate) fn path(&mut self, alloc: Global) -> Result<Vec<Name>, LineFault>
+        requires { self.old.number < 100 }
+        ensures { Takes path_of (joined_by slash) IsPath (λ path. path.items) self.old self.new result }
+    {
+        let fault = self.fault();
+        let field = self.parts.next().ok_or(fault)?;
+        let told = readings::path_of(alloc, field)?.ok_or(fault)?;
+        self.number += 1;
+        Ok(told)
+    }
+
+    /// Bytes with which memory starts.
+    pub(crate) fn bytes(&mut self, alloc: Global) -> Result<Vec<u8>, LineFault>
+        requires { self.old.number < 100 }
+        ensures { Takes bytes_of (flat_map byte_text) AreBytes (λ bytes. bytes.items) self.old self.new result }
+    {
+        let fault = self.fault();
+        let field = self.parts.next().ok_or(fault)?;
+        let told = readings::bytes_of(alloc, field)?.ok_or(fault)?;
+        self.number += 1;
+        Ok(told)
+    }
+
+    /// The next field, whatever it is.
+    pub(crate) fn next(&mut self) -> Result<&'a [u8], LineFault>
+        requires { self.old.number < 100 }
+        ensures { MatchResult result (λ field. Took self.old self.new field.now) (λ fault. (left self.old ≡ []) × (fault ≡ LineFault.At self.old.line self.old.number)) }
+    {
+        let fault = self.fault();
+        let field = self.parts.next().ok_or(fault)?;
+        self.number += 1;
+        Ok(field)
+    }
+
+    /// Just this word.
+    pub(crate) fn keyword(&mut self, word: &str) -> Result<(), LineFault>
+        requires { self.old.number < 100 }
+        ensures { MatchResult result (λ taken. Took self.old self.new word.now) (λ fault. Lacks (is_word word.now) self.old fault) }
+    {
+        let fault = self.fault();
+        let field = self.parts.next().ok_or(fault)?;
+        if field != word.as_bytes() {
+            return Err(fault);
+        }
+        self.number += 1;
+        Ok(())
+    }
+
+    /// A number from 1 on and below the bound.
+    pub(crate) fn count_below(&mut self, bound: usize) -> Result<usize, LineFault>
+        requires { self.old.number < 100 }
+        ensures { MatchResult result
+            (λ count. (field : List ℕ) × Took self.old self.new field × (is_decimal 1 bound field ≡ true) × (count ≡ digits_value 10 field) × (0 < count) × (count < bound))
+            (λ fault. Lacks (is_decimal 1 bound) self.old fault) }
+    {
+        let fault = self.fault();
+        let field = self.parts.next().ok_or(fault)?;
+        let count = numbers::count_below(field, bound).ok_or(fault)?;
+        self.number += 1;
+        Ok(count)
+    }
+
+    /// A hart below this number, and not the one of the line before.
+    pub(crate) fn other_hart(&mut self, harts: u8, last: Option<u8>) -> Result<u8, LineFault>
+        requires { self.old.number < 100 }
+        ensures { MatchResult result
+            (λ hart. (field : List ℕ) × Took self.old self.new field × (is_another_hart harts last field ≡ true) × (hart ≡ digits_value 10 field) × (hart < harts))
+            (λ fault. Lacks (is_another_hart harts last) self.old fault) }
+    {
+        let fault = self.fault();
+        let field = self.parts.next().ok_or(fault)?;
+        let hart = readings::other_hart(field, harts, last).ok_or(fault)?;
+        self.number += 1;
+        Ok(hart)
+    }
 }

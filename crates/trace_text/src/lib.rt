@@ -2,13 +2,26 @@
 #![tactic(auto)]
 
 mod display;
+mod entry;
 mod fault;
 mod fields;
 mod line;
+mod lines;
+mod naming;
+mod numbers;
+mod orders;
+mod parts;
 mod reading;
+mod readings;
+mod traces;
+mod trail;
+mod turns;
 mod writing;
 
+pub use entry::EntryText;
 pub use fault::LineFault;
-pub use line::{Kind, Line, StepLine};
-pub use reading::read_order;
+pub use line::{AccessText, Cause, Kind, Line, StepLine, TrapText};
+pub use orders::read_order;
+pub use traces::read_trace;
+pub use trail::TrailText;
 pub use writing::{write_order, write_trace};

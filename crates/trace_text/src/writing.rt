@@ -4,6 +4,7 @@ ghost use Rattle.trace_text.specs.Views.{lines_seen};
 ghost use Rattle.trace_text.specs.Text.{space, trace_text, order_text};
 
 use crate::line::Line;
+use crate::turns::Turns;
 use rv_fields::NoMemory;
 use std::fmt;
 
@@ -44,7 +45,7 @@ fn append_trace(harts: u8, lines: &[Line], into: &mut Vec<u8>) -> Result<(), NoM
     let mut buffer = String::new(*into.allocator());
     append_line(format_args!("trace 1 {harts}"), &mut buffer, into)?;
     for line in lines {
-        append_line(*line, &mut buffer, into)?;
+        append_line(line, &mut buffer, into)?;
     }
     Ok(())
 }
@@ -76,22 +77,6 @@ fn append_order(harts: u8, order: &[u8], into: &mut Vec<u8>) -> Result<(), NoMem
     }
     append_line(turns, &mut buffer, into)?;
     Ok(())
-}
-
-/// So many steps of one hart, one after another.
-#[derive(Clone, Copy)]
-pub(crate) struct Turns {
-    pub(crate) hart: u8,
-    pub(crate) count: usize,
-}
-
-impl fmt::Display for Turns {
-    ghost output = { λ turns. Some (decimal turns.hart ++ space ++ decimal turns.count) };
-
-    fn fmt<W: fmt::Write>(&self, f: &mut fmt::Formatter<W>) -> fmt::Result {
-        let Turns { hart, count } = *self;
-        write!(f, "{hart} {count}")
-    }
 }
 
 /// Puts what `{}` shows of the line, and a newline, at the end of `into`. The line is made whole

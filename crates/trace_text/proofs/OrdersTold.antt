@@ -1,0 +1,77 @@
+-- The order that a text tells, and the text that tells an order.
+use Rattle.std.proofs.Common.{◌≡◌, ℕ, ◌+◌, ◌<◌, ◌≤◌, ◌^◌, List, [], ◌∷◌, ◌++◌, length, replicate, refl, sym, ap, subst, ◌∙◌, arith, append_assoc, Some, None, get_or, drop, Result, Ok, Err}
+use Rattle.std.specs.Prelude.{MatchResult, IfOk}
+use Rattle.trace_text.specs.declared.fault.LineFault.{LineFault}
+use Rattle.trace_text.specs.declared.fault.LineFault.TheVariants.{At, Memory}
+use Rattle.trace_text.specs.Reading.{Tells, IsFault}
+use Rattle.std.specs.List.{flat_map}
+use Rattle.std.proofs.lemmas.List.{length-append, length-replicate}
+use Rattle.trace_text.specs.Fields.{lines_of_text, fields_of, fault_from}
+use Rattle.trace_text.specs.Orders.{IsOrder, order_form, nothing, turns, steps_of, order_fault, order_told, harts_told, number_in}
+use Rattle.trace_text.specs.Text.{order_text, turns_of, turns_text}
+use Rattle.trace_text.specs.Fields.{first_fault}
+use Rattle.trace_text.proofs.Faults.{step}
+use Rattle.trace_text.proofs.Told.{spelled}
+use Rattle.trace_text.proofs.OrderTexts.{header_line, header_cut, header_passes, fields_of_header, value_of_decimal, turns_are, no_fault, told_steps, steps_of_turns}
+
+-- one line more is told
+pub told_on : (order more rest first behind whole : List ℕ)
+    → order ++ flat_map steps_of (lines_of_text rest) ≡ whole → lines_of_text rest ≡ first ∷ lines_of_text behind
+    → more ≡ order ++ steps_of first → more ++ flat_map steps_of (lines_of_text behind) ≡ whole
+told_on order more rest first behind whole told cut is =
+    let tail = flat_map steps_of (lines_of_text behind) in
+    ap (λ (l : List ℕ). l ++ tail) is ∙ append_assoc order (steps_of first) tail
+    ∙ ap (λ (ls : List (List ℕ)). order ++ flat_map steps_of ls) (sym cut) ∙ told
+
+-- so many steps as are counted
+pub counted : (order : List ℕ) (count hart : ℕ) → length (order ++ replicate count hart) ≡ length order + count
+counted order count hart = length-append order (replicate count hart) ∙ ap (λ n. length order + n) (length-replicate count hart)
+
+-- The text of an order has no fault, and tells this order.
+pub told : (harts : ℕ) (order : List ℕ) → IsOrder harts order
+    → (order_fault (order_text harts order) ≡ None) × (harts_told (order_text harts order) ≡ harts) × (order_told (order_text harts order) ≡ order)
+told harts order is =
+    let ts = turns_of order in
+    let rest = flat_map turns_text ts in
+    let text = order_text harts order in
+    let header = header_line harts in
+    let few : harts ≤ 16 = is.most in
+    let some : 1 ≤ harts = is.some in
+    let small : harts < 2 ^ 64 = omega arith in
+    let cut : lines_of_text text ≡ header ∷ lines_of_text rest = header_cut harts rest small in
+    let number : number_in (fields_of header) 2 ≡ harts =
+    ap (λ (fs : List (List ℕ)). number_in fs 2) (fields_of_header harts small) ∙ value_of_decimal harts small in
+    let are = turns_are harts order is.named is.short in
+    let sound : order_fault text ≡ None =
+    ap (fault_from order_form nothing 1) cut
+    ∙ step order_form nothing 1 header rest
+    ∙ ap (λ w. first_fault 1 w (fault_from order_form (turns (number_in (fields_of header) 2) None 0) 2 (lines_of_text rest))) (header_passes harts some few)
+    ∙ ap (λ n. fault_from order_form (turns n None 0) 2 (lines_of_text rest)) number
+    ∙ no_fault harts None 0 2 ts few (omega arith) are in (
+      sound,
+      ap (λ (ls : List (List ℕ)). number_in (fields_of (get_or ls 0 [])) 2) cut ∙ number,
+      ap (λ (ls : List (List ℕ)). flat_map steps_of (drop 1 ls)) cut ∙ told_steps harts None 0 ts few are ∙ steps_of_turns order,
+    )
+
+none_ne_some : {A : Type 0} (x : A) → None ≡ Some x → ⊥
+none_ne_some x e = cc
+
+-- What the reader answers with, where `items` shows the vector's elements.
+module _ {V : Type 0} (items : V → List ℕ) (text : List ℕ) where
+  pub read_is : (r : Result (ℕ × V) LineFault) → MatchResult r (λ read. Tells text read.0 (items read.1)) (λ fault. IsFault (order_fault text) fault)
+      → IfOk r (λ read. IsOrder read.0 (items read.1) × (text ≡ order_text read.0 (items read.1)))
+  read_is (Ok read) tells =
+      let P : ℕ → Type 0 = λ harts. IsOrder harts (items read.1) × (text ≡ order_text harts (items read.1)) in
+      let Q : List ℕ → Type 0 = λ order. IsOrder (harts_told text) order × (text ≡ order_text (harts_told text) order) in
+      subst P (sym tells.harts_are) (subst Q (sym tells.order_is) (spelled text tells.sound))
+  read_is (Err fault) tells = tt
+
+  pub again_is : (r : Result (ℕ × V) LineFault) → MatchResult r (λ read. Tells text read.0 (items read.1)) (λ fault. IsFault (order_fault text) fault)
+      → (harts : ℕ) (order : List ℕ) → IsOrder harts order → text ≡ order_text harts order
+      → MatchResult r (λ read. (read.0 ≡ harts) × (items read.1 ≡ order)) (λ fault. fault ≡ Memory)
+  again_is (Ok read) tells harts order is same =
+      let parts = told harts order is in
+      (tells.harts_are ∙ ap harts_told same ∙ parts.1, tells.order_is ∙ ap order_told same ∙ parts.2)
+  again_is (Err Memory) tells harts order is same = refl
+  again_is (Err (At l f)) tells harts order is same =
+      absurd (none_ne_some (record { line = l; field = f }) (sym (told harts order is).0 ∙ ap order_fault (sym same) ∙ tells))

@@ -1,0 +1,85 @@
+-- The fault of a line, field by field.
+use Rattle.std.proofs.Common.{◌≡◌, ℕ, ◌+◌, List, [], ◌∷◌, true, cond, refl, sym, ap, ◌∙◌, Option, Some, Result, Ok, Err, subst}
+use Rattle.std.specs.Prelude.{MatchResult}
+use Rattle.std.specs.Result.{IsErrAnd}
+use Rattle.std.specs.Option.{is_some}
+use Rattle.trace_text.specs.declared.fields.Fields.{Fields}
+use Rattle.trace_text.specs.declared.fault.LineFault.{LineFault}
+use Rattle.trace_text.specs.declared.fault.LineFault.TheVariants.{At, Memory}
+use Rattle.trace_text.specs.Fields.{Test, first_wrong}
+use Rattle.trace_text.specs.Traces.{tells}
+use Rattle.trace_text.specs.Taking.{left, Took, Lacks, Leaves}
+use Rattle.trace_text.specs.LineReading.{IsWrongBy}
+use Rattle.trace_text.specs.Reading.{IsFaultIn}
+use Rattle.trace_text.specs.Orders.{is_word}
+use Rattle.std.proofs.lemmas.Slice.Eq.{bytes_eq-Decides}
+
+-- the fault is in the next field
+pub lacks_here : (test : Test) (tests : List Test) (old : Fields) (fault : LineFault) → Lacks test old fault → IsWrongBy (test ∷ tests) old fault
+lacks_here test tests old (At l f) lacks = (lacks.0, lacks.2 tests ∙ ap Some (sym lacks.1))
+lacks_here test tests old Memory lacks = tt
+
+passes : {A : Type 0} (reading : List ℕ → Option A) (a : A) (tests : List Test) (number : ℕ) (field : List ℕ) (fields : List (List ℕ))
+    → reading field ≡ Some a → first_wrong number (tells reading ∷ tests) (field ∷ fields) ≡ first_wrong (number + 1) tests fields
+passes reading a tests number field fields told =
+    ap (λ o. cond (is_some o) (first_wrong (number + 1) tests fields) (Some number)) told
+
+-- or behind it
+pub wrong_behind : {A : Type 0} (reading : List ℕ → Option A) (a : A) (tests : List Test) (old new : Fields) (field : List ℕ) (fault : LineFault)
+    → Took old new field → reading field ≡ Some a → IsWrongBy tests new fault → IsWrongBy (tells reading ∷ tests) old fault
+wrong_behind reading a tests old new field (At l f) took told wrong = (
+  wrong.0 ∙ took.line,
+  ap (λ fields. first_wrong old.number (tells reading ∷ tests) fields) took.fields
+      ∙ passes reading a tests old.number field (left new) told
+      ∙ ap (λ n. first_wrong n tests (left new)) (sym took.number) ∙ wrong.1,
+)
+wrong_behind reading a tests old new field Memory took told wrong = tt
+
+-- a field is left
+pub too_many : (old : Fields) (fault : LineFault) → Leaves old fault → IsWrongBy [] old fault
+too_many old (At l f) leaves = (leaves.0, leaves.2 ∙ ap Some (sym leaves.1))
+too_many old Memory leaves = tt
+
+-- the same behind a field that was taken
+pub after : {A : Type 0} (reading : List ℕ → Option A) {a : A} {Fits : Type 0} (tests : List Test) {old new : Fields} {field : List ℕ} (fault : LineFault)
+    → Took old new field × (reading field ≡ Some a) × Fits → IsWrongBy tests new fault → IsWrongBy (tells reading ∷ tests) old fault
+after reading {a} {Fits} tests {old} {new} {field} fault taken wrong = wrong_behind reading a tests old new field fault taken.0 taken.1 wrong
+
+-- what holds of the fault that an answer hands on
+pub handed_on : {V : Type 0} (P : V → Type 0) (Q : LineFault → Type 0) (result : Result V LineFault) (fault : LineFault)
+    → IsErrAnd result (λ f. f ≡ fault) → Q fault → MatchResult result P Q
+handed_on P Q (Ok v) fault is holds = absurd is
+handed_on P Q (Err f) fault is holds = subst Q (sym is) holds
+
+-- a field that tells something was taken
+pub taken : {A : Type 0} (reading : List ℕ → Option A) (a : A) {Fits : Type 0} (text field : List ℕ) (old new : Fields)
+    → Fits × (text ≡ field) → reading field ≡ Some a → left old ≡ field ∷ left new → new.line ≡ old.line → new.number ≡ old.number + 1
+    → Took old new text × (reading text ≡ Some a) × Fits
+taken reading a text field old new back told fields line number = (
+  record { fields = fields ∙ ap (λ f. f ∷ left new) (sym back.1); line = line; number = number },
+  ap reading back.1 ∙ told,
+  back.0,
+)
+
+-- the same behind a field that passed a test
+pub passed : (test : Test) (tests : List Test) {old new : Fields} {field : List ℕ} (fault : LineFault)
+    → Took old new field → test field ≡ true → IsWrongBy tests new fault → IsWrongBy (test ∷ tests) old fault
+passed test tests {old} {new} {field} (At l f) took passes wrong = (
+  wrong.0 ∙ took.line,
+  ap (λ fields. first_wrong old.number (test ∷ tests) fields) took.fields
+      ∙ ap (λ b. cond b (first_wrong (old.number + 1) tests (left new)) (Some old.number)) passes
+      ∙ ap (λ n. first_wrong n tests (left new)) (sym took.number) ∙ wrong.1,
+)
+passed test tests {old} {new} {field} Memory took passes wrong = tt
+
+-- the fault of a whole line
+pub from_start : (tests : List Test) (line : ℕ) (fields : List (List ℕ)) (old : Fields) (fault : LineFault)
+    → (left old ≡ fields) × (old.line ≡ line) × (old.number ≡ 1) → IsWrongBy tests old fault → IsFaultIn tests line fields fault
+from_start tests line fields old (At l f) starts wrong = (
+  wrong.0 ∙ starts.1,
+  ap (first_wrong 1 tests) (sym starts.0) ∙ ap (λ n. first_wrong n tests (left old)) (sym starts.2) ∙ wrong.1,
+)
+from_start tests line fields old Memory starts wrong = tt
+
+pub word_passes : (word : List ℕ) → is_word word word ≡ true
+word_passes word = (bytes_eq-Decides word word).1 refl

@@ -1,0 +1,144 @@
+-- The form of a trace, and the traces that it spells.
+use Rattle.std.specs.Prelude.{ℕ, ◌^◌, ◌*◌, ◌<◌, ◌≤◌, false, List, [], ◌∷◌, length, codes, get_or, Option, Some, None, IsTrue, IfSome, if◌then◌else◌}
+use Rattle.std.specs.Option.{is_some}
+use Rattle.std.specs.List.{AllByRecursion}
+use Rattle.std.specs.Str.{bytes_eq}
+use Rattle.rv_fields.specs.Name.{is_name}
+use Rattle.rv_fields.specs.Effect.{Effect, Access, Entry, TrapTaken}
+use Rattle.trace_text.specs.Lines.{Name, Line, hart_of, request, picked, weighed, fixed, given, settled, touched, made, found, ending, done, refused}
+use Rattle.trace_text.specs.Numbers.{decimal_below, word_of}
+use Rattle.trace_text.specs.Fields.{Test, Form, Place, fault_of}
+use Rattle.trace_text.specs.Orders.{is_word, header_tests, number_in, most_harts}
+use Rattle.trace_text.specs.Readings.{is_any_of, access_letters, mode_letters, sizes, preambles, kind_of, cause_of, name_of, count_of, hex_of, register_of, space_of, number_of, path_of, bytes_of, optional, write_of, access_of, trail_of, trap_of}
+
+-- The ranges that a trace keeps.
+
+abbrev pub IsAnyOf : List ℕ → ℕ → Type 0
+IsAnyOf numbers n = IsTrue (is_any_of numbers n)
+
+abbrev pub IsName : Name → Type 0
+IsName name = IsTrue (is_name name)
+
+-- a register that is written, and its new value
+pub record IsWrite (w : ℕ × ℕ) : Type 0 where
+  pub some : 1 ≤ w.0
+  pub register : w.0 < 32
+  pub value : w.1 < 2 ^ 64
+
+pub record IsAccess (a : Access) : Type 0 where
+  pub kind : IsAnyOf access_letters a.kind
+  pub virtual : a.virtual < 2 ^ 64
+  pub physical : a.physical < 2 ^ 64
+  pub size : IsAnyOf sizes a.size
+  pub read : IfSome a.read (λ n. n < 2 ^ (8 * a.size))
+  pub wrote : IfSome a.wrote (λ n. n < 2 ^ (8 * a.size))
+
+pub record IsEntry (e : Entry) : Type 0 where
+  pub at : e.at < 2 ^ 64
+  pub pte : e.pte < 2 ^ 64
+
+pub record IsTrap (t : TrapTaken) : Type 0 where
+  pub cause : t.cause < 16
+  pub epc : t.epc < 2 ^ 64
+  pub tval : t.tval < 2 ^ 64
+  pub mode : IsAnyOf mode_letters t.mode
+
+pub record IsStep (e : Effect) : Type 0 where
+  pub pc : e.pc < 2 ^ 64
+  pub pa : e.pa < 2 ^ 64
+  pub word : e.word < 2 ^ 32
+  pub rd : IfSome e.rd IsWrite
+  pub access : IfSome e.access IsAccess
+  pub short : length e.trail ≤ 4
+  pub trail : AllByRecursion IsEntry e.trail
+  pub trap : IfSome e.trap IsTrap
+
+pub record IsPath (path : List Name) : Type 0 where
+  pub some : 1 ≤ length path
+  pub short : length path ≤ 8
+  pub named : AllByRecursion IsName path
+
+pub record AreBytes (bytes : List ℕ) : Type 0 where
+  pub some : 1 ≤ length bytes
+  pub short : length bytes ≤ 8
+  pub small : AllByRecursion (λ b. b < 2 ^ 8) bytes
+
+-- what a line tells is in its ranges
+abbrev pub KeepsRanges : Line → Type 0
+KeepsRanges (request hart k kind) = k < 2 ^ 32
+KeepsRanges (picked hart tree leaf drawn) = IsName tree × IsName leaf × (drawn < 2 ^ 64)
+KeepsRanges (weighed hart tree path weight) = IsName tree × IsPath path × (weight < 2 ^ 32)
+KeepsRanges (fixed hart register value) = (1 ≤ register) × (register < 32) × (value < 2 ^ 64)
+KeepsRanges (given hart object page frame) = IsName object × (page < 2 ^ 32) × (frame < 2 ^ 32)
+KeepsRanges (settled hart space entry) = (space < 16) × IsEntry entry
+KeepsRanges (touched hart at bytes) = (at < 2 ^ 64) × AreBytes bytes
+KeepsRanges (made e) = IsStep e
+KeepsRanges (found e) = IsStep e
+KeepsRanges (ending e) = IsStep e
+KeepsRanges (done hart k) = k < 2 ^ 32
+KeepsRanges (refused hart k cause preamble) = (k < 2 ^ 32) × IsAnyOf preambles preamble
+
+-- a line of one of so many harts
+pub record IsLine (harts : ℕ) (line : Line) : Type 0 where
+  pub hart : hart_of line < harts
+  pub ranges : KeepsRanges line
+
+-- lines of 1 to 16 harts
+pub record IsTrace (harts : ℕ) (lines : List Line) : Type 0 where
+  pub some : 1 ≤ harts
+  pub most : harts ≤ most_harts
+  pub are_lines : AllByRecursion (IsLine harts) lines
+
+-- The tests of the fields.
+
+-- the field tells something by this reading
+abbrev pub tells : {A : Type 0} → (List ℕ → Option A) → Test
+tells reading field = is_some (reading field)
+
+abbrev pub step_tests : List Test
+step_tests = tells hex_of ∷ tells hex_of ∷ tells word_of ∷ tells (optional write_of) ∷ tells (optional access_of) ∷ tells trail_of ∷ tells (optional trap_of) ∷ []
+
+-- a kind of line: its first field, and the tests of the fields behind the hart
+pub record LineForm : Type 0 where
+  pub key : List ℕ
+  pub tests : List Test
+
+abbrev pub form_of : List ℕ → List Test → LineForm
+form_of key tests = record { key = key; tests = tests }
+
+abbrev pub line_forms : List LineForm
+line_forms =
+    form_of (codes "q") (tells count_of ∷ tells kind_of ∷ [])
+    ∷ form_of (codes "p") (tells name_of ∷ tells name_of ∷ tells hex_of ∷ [])
+    ∷ form_of (codes "w") (tells name_of ∷ tells path_of ∷ tells count_of ∷ [])
+    ∷ form_of (codes "x") (tells register_of ∷ tells hex_of ∷ [])
+    ∷ form_of (codes "g") (tells name_of ∷ tells count_of ∷ tells count_of ∷ [])
+    ∷ form_of (codes "m") (tells space_of ∷ tells hex_of ∷ tells hex_of ∷ [])
+    ∷ form_of (codes "y") (tells hex_of ∷ tells bytes_of ∷ [])
+    ∷ form_of (codes "s") step_tests
+    ∷ form_of (codes "f") step_tests
+    ∷ form_of (codes "e") step_tests
+    ∷ form_of (codes "d") (tells count_of ∷ [])
+    ∷ form_of (codes "r") (tells count_of ∷ tells cause_of ∷ tells (number_of preambles) ∷ [])
+    ∷ []
+
+-- the tests of a line with this first field; where no form has it, it is wrong
+abbrev pub tests_for : ℕ → List ℕ → List LineForm → List Test
+tests_for harts key [] = (λ field. false) ∷ []
+tests_for harts key (form ∷ forms) =
+    if bytes_eq form.key key then is_word key ∷ tells (decimal_below harts) ∷ form.tests else tests_for harts key forms
+
+-- What is known behind some lines: the number of harts, behind the first.
+abbrev pub trace_tests : Option ℕ → List (List ℕ) → List Test
+trace_tests None fields = header_tests (codes "trace")
+trace_tests (Some harts) fields = tests_for harts (get_or fields 0 []) line_forms
+
+abbrev pub trace_after : Option ℕ → List (List ℕ) → Option ℕ
+trace_after None fields = Some (number_in fields 2)
+trace_after (Some harts) fields = Some harts
+
+abbrev pub trace_form : Form (Option ℕ)
+trace_form = record { tests = trace_tests; after = trace_after }
+
+abbrev pub trace_fault : List ℕ → Option Place
+trace_fault text = fault_of trace_form None text

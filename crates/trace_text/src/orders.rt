@@ -1,0 +1,99 @@
+ghost use Rattle.std.specs.Prelude.{◌≡◌, ℕ, ◌<◌, ◌≤◌, ◌+◌, ◌++◌, ◌^◌, length, replicate, OnOk, List, Some, None, IfOk, IfErr, MatchResult};
+ghost use Rattle.trace_text.specs.Text.{order_text};
+ghost use Rattle.trace_text.specs.Fields.{fields_of, first_wrong};
+ghost use Rattle.trace_text.specs.Orders.{IsOrder, turns, nothing, order_form, order_fault, order_tests, number_in};
+ghost use Rattle.trace_text.specs.Reading.{Tells, TellsTurns, IsFault, IsFaultIn, turns_fault};
+
+use crate::fault::LineFault;
+use crate::fields::Fields;
+use crate::parts::cut;
+use crate::reading::{HEADER_FIELDS, at_end, header};
+use crate::turns::Turns;
+use std::alloc::{AllocError, Global};
+
+#[cfg(test)]
+mod tests;
+
+/// No order has more steps.
+const MOST_STEPS: usize = 1_048_576;
+
+/// The number of fields of a line behind the first.
+const TURNS_FIELDS: u32 = 2;
+
+/// Reads the text of an order: the number of harts, and the hart of each step in turn.
+pub fn read_order(alloc: Global, bytes: &[u8]) -> Result<(u8, Vec<u8>), LineFault>
+    // What is read is an order, and the bytes are its text.
+    ensures read { IfOk result (λ read. IsOrder read.0 read.1.items × (bytes.now ≡ order_text read.0 read.1.items)) }
+    // The text of an order is read as that order, unless memory runs out.
+    ensures again { (harts : ℕ) → (order : List ℕ) → IsOrder harts order → bytes.now ≡ order_text harts order
+        → MatchResult result (λ read. (read.0 ≡ harts) × (read.1.items ≡ order)) (λ fault. fault ≡ LineFault.Memory) }
+    // Bytes that are no order's text have their first fault for an answer, unless memory runs out.
+    ensures fault { IfErr result (λ fault. IsFault (order_fault bytes.now) fault) }
+{
+    read_lines(alloc, bytes)
+}
+
+/// As `read_order`.
+fn read_lines(alloc: Global, bytes: &[u8]) -> Result<(u8, Vec<u8>), LineFault>
+    ensures { MatchResult result (λ read. Tells bytes.now read.0 read.1.items) (λ fault. IsFault (order_fault bytes.now) fault) }
+{
+    let Some((first, behind)) = cut(bytes, b'\n') else {
+        return Err(at_end(1, header(bytes, "order").err(), HEADER_FIELDS));
+    };
+    let harts = header(first, "order")?;
+    let order = read_turns(alloc, harts, behind)?;
+    Ok((harts, order))
+}
+
+/// Reads the lines behind the first.
+fn read_turns(alloc: Global, harts: u8, lines: &[u8]) -> Result<Vec<u8>, LineFault>
+    ensures { MatchResult result (λ order. TellsTurns harts lines.now order.items) (λ fault. IsFault (turns_fault harts lines.now) fault) }
+{
+    let mut rest = lines;
+    let mut order = Vec::new(alloc);
+    let mut last = None;
+    let mut line = 2;
+    while let Some((first, behind)) = cut(rest, b'\n') {
+        let turns = turns_of(line, first, harts, last, order.len())?;
+        append_turns(turns, &mut order)?;
+        last = Some(turns.hart);
+        rest = behind;
+        line += 1;
+    }
+    if !rest.is_empty() {
+        let turns = turns_of(line, rest, harts, last, order.len());
+        return Err(at_end(line, turns.err(), TURNS_FIELDS));
+    }
+    Ok(order)
+}
+
+/// Adds so many steps of one hart at the end.
+fn append_turns(turns: Turns, order: &mut Vec<u8>) -> Result<(), AllocError>
+    requires { length order.old.items + turns.count < 2 ^ 32 }
+    ensures { OnOk result (order.new.items ≡ order.old.items ++ replicate turns.count turns.hart) }
+{
+    order.resize(order.len() + turns.count, turns.hart)?;
+    Ok(())
+}
+
+/// The steps that a line behind so many steps tells, where the line before is of the hart `last`.
+fn turns_of(
+    line: u64,
+    text: &[u8],
+    harts: u8,
+    last: Option<u8>,
+    steps: usize,
+) -> Result<Turns, LineFault>
+    requires { steps ≤ 1048576 }
+    ensures { let fields = fields_of text.now in
+        let tests = order_tests (turns harts last steps) fields in
+        MatchResult result
+        (λ told. (first_wrong 1 tests fields ≡ None) × (told.hart ≡ number_in fields 0) × (told.count ≡ number_in fields 1) × (told.count + steps ≤ 1048576))
+        (λ fault. IsFaultIn tests line fields fault) }
+{
+    let mut fields = Fields::of(line, text);
+    let hart = fields.other_hart(harts, last)?;
+    let count = fields.count_below(MOST_STEPS - steps + 1)?;
+    fields.end()?;
+    Ok(Turns { hart, count })
+}

@@ -1,0 +1,21 @@
+ghost use Rattle.std.specs.Prelude.{◌++◌, Some};
+ghost use Rattle.std.specs.Fmt.{decimal};
+ghost use Rattle.trace_text.specs.Text.{space};
+
+use std::fmt;
+
+/// So many steps of one hart, one after another.
+#[derive(Clone, Copy)]
+pub(crate) struct Turns {
+    pub(crate) hart: u8,
+    pub(crate) count: usize,
+}
+
+impl fmt::Display for Turns {
+    ghost output = { λ turns. Some (decimal turns.hart ++ space ++ decimal turns.count) };
+
+    fn fmt<W: fmt::Write>(&self, f: &mut fmt::Formatter<W>) -> fmt::Result {
+        let Turns { hart, count } = *self;
+        write!(f, "{hart} {count}")
+    }
+}
