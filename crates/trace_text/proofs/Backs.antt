@@ -13,6 +13,7 @@ use Rattle.std.proofs.lemmas.Slice.Eq.{bytes_eq-Decides}
 use Rattle.rv_fields.specs.Attempt.{◌>>=◌}
 use Rattle.rv_fields.specs.Name.{is_name}
 use Rattle.rv_fields.specs.Effect.{Access, Entry, TrapTaken}
+use Rattle.std.proofs.lemmas.Option.{none-some, same_Some}
 use Rattle.trace_text.specs.declared.line.Kind.{Kind}
 use Rattle.trace_text.specs.declared.line.Cause.{Cause}
 use Rattle.trace_text.specs.Lines.{Name}
@@ -23,12 +24,6 @@ use Rattle.trace_text.specs.Traces.{IsAnyOf, IsName, IsWrite, IsAccess, IsEntry,
 use Rattle.trace_text.proofs.Spelled as spelled
 use Rattle.trace_text.proofs.WordBytes.{access_letter_is, mode_letter_is}
 
-pub none_ne_some : {A : Type 0} (a : A) → None ≡ Some a → ⊥
-none_ne_some a e = cc
-
-pub some_same : {A : Type 0} (a b : A) → Some a ≡ Some b → a ≡ b
-some_same a b e = cc
-
 -- what the first of two steps tells, and the second of it
 record Found {A B : Type 0} (first : Option A) (next : A → Option B) (b : B) : Type 0 where
   value : A
@@ -37,12 +32,12 @@ record Found {A B : Type 0} (first : Option A) (next : A → Option B) (b : B) :
 
 found : {A B : Type 0} (first : Option A) (next : A → Option B) (b : B) → (first >>= next) ≡ Some b → Found first next b
 found (Some a) next b told = record { value = a; is = refl; gives = told }
-found None next b told = absurd (none_ne_some b told)
+found None next b told = absurd (none-some b told)
 
 -- a test that is passed before something is told
 passed : {A : Type 0} (test : Bool) (o : Option A) (a : A) → cond test o None ≡ Some a → (test ≡ true) × (o ≡ Some a)
 passed true o a told = (refl, told)
-passed false o a told = absurd (none_ne_some a told)
+passed false o a told = absurd (none-some a told)
 
 -- Numbers.
 
@@ -70,7 +65,7 @@ byte_back field b told = spelled.wide_back 2 b field told
 -- the number that a field tells is the one that its digits write
 pub value_told : (spelling : ℕ → List ℕ) (base bound : ℕ) (field : List ℕ) (n : ℕ)
     → spelled_by spelling base bound field ≡ Some n → digits_value base field ≡ n
-value_told spelling base bound field n told = some_same _ n (passed _ (Some (digits_value base field)) n told).1
+value_told spelling base bound field n told = same_Some _ n (passed _ (Some (digits_value base field)) n told).1
 
 at_least : (low : ℕ) (o : Option ℕ) → option_map_or (λ m. not (nat_lt m low)) o false ≡ true → (m : ℕ) × (o ≡ Some m) × (low ≤ m)
 at_least low None test = absurd (false≢true test)
@@ -80,7 +75,7 @@ pub register_back : (field : List ℕ) (r : ℕ) → register_of field ≡ Some 
 register_back field r told =
     let parts = passed _ (Some (digits_value 10 field)) r told in
     let number = at_least 1 (decimal_below 32 field) parts.0 in
-    let same : number.0 ≡ r = sym (value_told decimal 10 32 field number.0 number.1) ∙ some_same _ r parts.1 in
+    let same : number.0 ≡ r = sym (value_told decimal 10 32 field number.0 number.1) ∙ same_Some _ r parts.1 in
     let text = spelled.decimal_back 32 number.0 field number.1 in
     subst (λ m. ((1 ≤ m) × (m < 32)) × (decimal m ≡ field)) same ((number.2, text.0), text.1)
 
@@ -88,18 +83,18 @@ pub number_back : (numbers field : List ℕ) (n : ℕ) → number_of numbers fie
 number_back numbers field n told =
     let count = found (count_of field) _ n told in
     let parts = passed (is_any_of numbers count.value) (Some count.value) n count.gives in
-    subst (λ m. IsAnyOf numbers m × (decimal m ≡ field)) (some_same count.value n parts.1)
+    subst (λ m. IsAnyOf numbers m × (decimal m ≡ field)) (same_Some count.value n parts.1)
     (parts.0, (count_back field count.value count.is).1)
 
 -- Letters and names.
 
 letter_back : (letters field : List ℕ) (l : ℕ) → letter_of letters field ≡ Some l → IsAnyOf letters l × (l ∷ [] ≡ field)
-letter_back letters [] l told = absurd (none_ne_some l told)
+letter_back letters [] l told = absurd (none-some l told)
 letter_back letters (c ∷ []) l told =
     let parts = passed (is_any_of letters c) (Some c) l told in
-    let same : c ≡ l = some_same c l parts.1 in
+    let same : c ≡ l = same_Some c l parts.1 in
     (subst (IsAnyOf letters) same parts.0, ap (λ b. b ∷ []) (sym same))
-letter_back letters (c ∷ d ∷ rest) l told = absurd (none_ne_some l told)
+letter_back letters (c ∷ d ∷ rest) l told = absurd (none-some l told)
 
 pub access_letter_back : (field : List ℕ) (l : ℕ) → letter_of access_letters field ≡ Some l → IsAnyOf access_letters l × (letter_text l ≡ field)
 access_letter_back field l told = let back = letter_back access_letters field l told in (back.0, access_letter_is l back.0 ∙ back.1)
@@ -110,13 +105,13 @@ mode_letter_back field l told = let back = letter_back mode_letters field l told
 pub name_back : (field name : List ℕ) → name_of field ≡ Some name → IsName name × (name ≡ field)
 name_back field name told =
     let parts = passed (is_name field) (Some field) name told in
-    let same : field ≡ name = some_same field name parts.1 in
+    let same : field ≡ name = same_Some field name parts.1 in
     (subst IsName same parts.0, sym same)
 
 find_passes : {A : Type 0} (test : A → Bool) (things : List A) (a : A) → find test things ≡ Some a → test a ≡ true
-find_passes test [] a is = absurd (none_ne_some a is)
+find_passes test [] a is = absurd (none-some a is)
 find_passes test (x ∷ xs) a is = elim (cases_Bool (test x)) [
-  | inl passes ↦ subst (λ b. test b ≡ true) (some_same x a (sym (ap (λ b. cond b (Some x) (find test xs)) passes) ∙ is)) passes
+  | inl passes ↦ subst (λ b. test b ≡ true) (same_Some x a (sym (ap (λ b. cond b (Some x) (find test xs)) passes) ∙ is)) passes
   | inr fails ↦ find_passes test xs a (sym (ap (λ b. cond b (Some x) (find test xs)) fails) ∙ is)
 ]
 
@@ -135,13 +130,13 @@ module _ {A : Type 0} (text : A → List ℕ) (reading : List ℕ → Option A) 
     (back : (field : List ℕ) (a : A) → reading field ≡ Some a → Fits a × (text a ≡ field)) where
   all_back : (parts : List (List ℕ)) (things : List A) → all_of reading parts ≡ Some things → AllByRecursion Fits things × (map text things ≡ parts)
   all_back [] things told =
-      subst (λ (ts : List A). AllByRecursion Fits ts × (map text ts ≡ [])) (some_same [] things told) (tt, refl)
+      subst (λ (ts : List A). AllByRecursion Fits ts × (map text ts ≡ [])) (same_Some [] things told) (tt, refl)
   all_back (part ∷ parts) things told =
       let first = found (reading part) _ things told in
       let others = found (all_of reading parts) _ things first.gives in
       let one = back part first.value first.is in
       let rest = all_back parts others.value others.is in
-      subst (λ (ts : List A). AllByRecursion Fits ts × (map text ts ≡ part ∷ parts)) (some_same (first.value ∷ others.value) things others.gives)
+      subst (λ (ts : List A). AllByRecursion Fits ts × (map text ts ≡ part ∷ parts)) (same_Some (first.value ∷ others.value) things others.gives)
       ((one.0, rest.0), λ i. one.1 i ∷ rest.1 i)
 
   pub at_most_back : (most : ℕ) (parts : List (List ℕ)) (things : List A) → at_most most reading parts ≡ Some things
@@ -155,14 +150,14 @@ module _ {A : Type 0} (text : A → List ℕ) (reading : List ℕ → Option A) 
 
   optional_told : (field : List ℕ) (told : Option A) (o : Option A) → reading field ≡ told → option_map Some told ≡ Some o
       → IfSome o Fits × (or_none text o ≡ field)
-  optional_told field None o is same = absurd (none_ne_some o same)
+  optional_told field None o is same = absurd (none-some o same)
   optional_told field (Some a) o is same =
-      subst (λ (p : Option A). IfSome p Fits × (or_none text p ≡ field)) (some_same (Some a) o same) (back field a is)
+      subst (λ (p : Option A). IfSome p Fits × (or_none text p ≡ field)) (same_Some (Some a) o same) (back field a is)
 
   pub optional_back : (field : List ℕ) (o : Option A) → optional reading field ≡ Some o → IfSome o Fits × (or_none text o ≡ field)
   optional_back field o told = elim (cases_Bool (bytes_eq field none_text)) [
     | inl nothing ↦
-        let same : None ≡ o = some_same None o (sym (ap (λ b. cond b (Some None) (option_map Some (reading field))) nothing) ∙ told) in
+        let same : None ≡ o = same_Some None o (sym (ap (λ b. cond b (Some None) (option_map Some (reading field))) nothing) ∙ told) in
         subst (λ (p : Option A). IfSome p Fits × (or_none text p ≡ field)) same (tt, sym ((bytes_eq-Decides field none_text).0 nothing))
     | inr something ↦
         optional_told field (reading field) o refl (sym (ap (λ b. cond b (Some None) (option_map Some (reading field))) something) ∙ told)
@@ -198,7 +193,7 @@ some_pairs b [] = omega arith
 some_pairs b (c ∷ cs) = omega arith
 
 pub bytes_back : (field bytes : List ℕ) → bytes_of field ≡ Some bytes → AreBytes bytes × (flat_map byte_text bytes ≡ field)
-bytes_back [] bytes told = absurd (none_ne_some bytes told)
+bytes_back [] bytes told = absurd (none-some bytes told)
 bytes_back (c ∷ cs) bytes told =
     let pairs = at_most_back byte_text byte_of (λ b. b < 2 ^ 8) byte_back 8 (pairs_of (c ∷ cs)) bytes told in
     let long : length bytes ≡ length (pairs_of (c ∷ cs)) = sym (length-map bytes byte_text) ∙ ap length pairs.2 in
@@ -210,16 +205,16 @@ bytes_back (c ∷ cs) bytes told =
 -- Fields of parts.
 
 write_in_back : (parts : List (List ℕ)) (w : ℕ × ℕ) → write_in parts ≡ Some w → IsWrite w × (decimal w.0 ∷ hex w.1 ∷ [] ≡ parts)
-write_in_back [] w told = absurd (none_ne_some w told)
-write_in_back (register ∷ []) w told = absurd (none_ne_some w told)
+write_in_back [] w told = absurd (none-some w told)
+write_in_back (register ∷ []) w told = absurd (none-some w told)
 write_in_back (register ∷ value ∷ []) w told =
     let r = found (register_of register) _ w told in
     let v = found (hex_of value) _ w r.gives in
     let one = register_back register r.value r.is in
     let two = hex_back value v.value v.is in
-    subst (λ (w : ℕ × ℕ). IsWrite w × (decimal w.0 ∷ hex w.1 ∷ [] ≡ register ∷ value ∷ [])) (some_same (r.value, v.value) w v.gives)
+    subst (λ (w : ℕ × ℕ). IsWrite w × (decimal w.0 ∷ hex w.1 ∷ [] ≡ register ∷ value ∷ [])) (same_Some (r.value, v.value) w v.gives)
     (record { some = one.0.0; register = one.0.1; value = two.0 }, λ i. one.1 i ∷ two.1 i ∷ [])
-write_in_back (register ∷ value ∷ more ∷ rest) w told = absurd (none_ne_some w told)
+write_in_back (register ∷ value ∷ more ∷ rest) w told = absurd (none-some w told)
 
 pub write_back : (field : List ℕ) (w : ℕ × ℕ) → write_of field ≡ Some w → IsWrite w × (write_text w ≡ field)
 write_back field w told =
@@ -227,16 +222,16 @@ write_back field w told =
     (parts.0, joined colon (decimal w.0 ∷ hex w.1 ∷ []) field parts.1)
 
 entry_in_back : (parts : List (List ℕ)) (e : Entry) → entry_in parts ≡ Some e → IsEntry e × (hex e.at ∷ hex e.pte ∷ [] ≡ parts)
-entry_in_back [] e told = absurd (none_ne_some e told)
-entry_in_back (at ∷ []) e told = absurd (none_ne_some e told)
+entry_in_back [] e told = absurd (none-some e told)
+entry_in_back (at ∷ []) e told = absurd (none-some e told)
 entry_in_back (at ∷ pte ∷ []) e told =
     let a = found (hex_of at) _ e told in
     let p = found (hex_of pte) _ e a.gives in
     let one = hex_back at a.value a.is in
     let two = hex_back pte p.value p.is in
-    subst (λ (e : Entry). IsEntry e × (hex e.at ∷ hex e.pte ∷ [] ≡ at ∷ pte ∷ [])) (some_same (record { at = a.value; pte = p.value }) e p.gives)
+    subst (λ (e : Entry). IsEntry e × (hex e.at ∷ hex e.pte ∷ [] ≡ at ∷ pte ∷ [])) (same_Some (record { at = a.value; pte = p.value }) e p.gives)
     (record { at = one.0; pte = two.0 }, λ i. one.1 i ∷ two.1 i ∷ [])
-entry_in_back (at ∷ pte ∷ more ∷ rest) e told = absurd (none_ne_some e told)
+entry_in_back (at ∷ pte ∷ more ∷ rest) e told = absurd (none-some e told)
 
 pub entry_back : (field : List ℕ) (e : Entry) → entry_of field ≡ Some e → IsEntry e × (entry_text e ≡ field)
 entry_back field e told =
@@ -248,10 +243,10 @@ abbrev pub trap_parts : TrapTaken → List (List ℕ)
 trap_parts t = decimal t.cause ∷ hex t.epc ∷ hex t.tval ∷ letter_text t.mode ∷ []
 
 trap_in_back : (parts : List (List ℕ)) (t : TrapTaken) → trap_in parts ≡ Some t → IsTrap t × (trap_parts t ≡ parts)
-trap_in_back [] t told = absurd (none_ne_some t told)
-trap_in_back (cause ∷ []) t told = absurd (none_ne_some t told)
-trap_in_back (cause ∷ epc ∷ []) t told = absurd (none_ne_some t told)
-trap_in_back (cause ∷ epc ∷ tval ∷ []) t told = absurd (none_ne_some t told)
+trap_in_back [] t told = absurd (none-some t told)
+trap_in_back (cause ∷ []) t told = absurd (none-some t told)
+trap_in_back (cause ∷ epc ∷ []) t told = absurd (none-some t told)
+trap_in_back (cause ∷ epc ∷ tval ∷ []) t told = absurd (none-some t told)
 trap_in_back (cause ∷ epc ∷ tval ∷ mode ∷ []) t told =
     let c = found (decimal_below 16 cause) _ t told in
     let e = found (hex_of epc) _ t c.gives in
@@ -263,9 +258,9 @@ trap_in_back (cause ∷ epc ∷ tval ∷ mode ∷ []) t told =
     let three = hex_back tval v.value v.is in
     let four = mode_letter_back mode m.value m.is in
     subst (λ (t : TrapTaken). IsTrap t × (trap_parts t ≡ cause ∷ epc ∷ tval ∷ mode ∷ []))
-    {x = trap} (some_same trap t m.gives)
+    {x = trap} (same_Some trap t m.gives)
     (record { cause = one.0; epc = two.0; tval = three.0; mode = four.0 }, λ i. one.1 i ∷ two.1 i ∷ three.1 i ∷ four.1 i ∷ [])
-trap_in_back (cause ∷ epc ∷ tval ∷ mode ∷ more ∷ rest) t told = absurd (none_ne_some t told)
+trap_in_back (cause ∷ epc ∷ tval ∷ mode ∷ more ∷ rest) t told = absurd (none-some t told)
 
 pub trap_back : (field : List ℕ) (t : TrapTaken) → trap_of field ≡ Some t → IsTrap t × (trap_text t ≡ field)
 trap_back field t told =
@@ -293,20 +288,20 @@ access_six_back kind virtual physical size read wrote a told =
     let five = optional_back hex (sized s.value) (λ n. n < 2 ^ (8 * s.value)) (sized_back s.value) read r.value r.is in
     let six = optional_back hex (sized s.value) (λ n. n < 2 ^ (8 * s.value)) (sized_back s.value) wrote w.value w.is in
     subst (λ (a : Access). IsAccess a × (access_parts a ≡ kind ∷ virtual ∷ physical ∷ size ∷ read ∷ wrote ∷ []))
-    {x = access} (some_same access a w.gives) (
+    {x = access} (same_Some access a w.gives) (
       record { kind = one.0; virtual = two.0; physical = three.0; size = four.0; read = five.0; wrote = six.0 },
       λ i. one.1 i ∷ two.1 i ∷ three.1 i ∷ four.1 i ∷ five.1 i ∷ six.1 i ∷ [],
     )
 
 access_in_back : (parts : List (List ℕ)) (a : Access) → access_in parts ≡ Some a → IsAccess a × (access_parts a ≡ parts)
-access_in_back [] x told = absurd (none_ne_some x told)
-access_in_back (a ∷ []) x told = absurd (none_ne_some x told)
-access_in_back (a ∷ b ∷ []) x told = absurd (none_ne_some x told)
-access_in_back (a ∷ b ∷ c ∷ []) x told = absurd (none_ne_some x told)
-access_in_back (a ∷ b ∷ c ∷ d ∷ []) x told = absurd (none_ne_some x told)
-access_in_back (a ∷ b ∷ c ∷ d ∷ e ∷ []) x told = absurd (none_ne_some x told)
+access_in_back [] x told = absurd (none-some x told)
+access_in_back (a ∷ []) x told = absurd (none-some x told)
+access_in_back (a ∷ b ∷ []) x told = absurd (none-some x told)
+access_in_back (a ∷ b ∷ c ∷ []) x told = absurd (none-some x told)
+access_in_back (a ∷ b ∷ c ∷ d ∷ []) x told = absurd (none-some x told)
+access_in_back (a ∷ b ∷ c ∷ d ∷ e ∷ []) x told = absurd (none-some x told)
 access_in_back (a ∷ b ∷ c ∷ d ∷ e ∷ f ∷ []) x told = access_six_back a b c d e f x told
-access_in_back (a ∷ b ∷ c ∷ d ∷ e ∷ f ∷ g ∷ rest) x told = absurd (none_ne_some x told)
+access_in_back (a ∷ b ∷ c ∷ d ∷ e ∷ f ∷ g ∷ rest) x told = absurd (none-some x told)
 
 pub access_back : (field : List ℕ) (a : Access) → access_of field ≡ Some a → IsAccess a × (access_text a ≡ field)
 access_back field a told =
@@ -326,7 +321,7 @@ some_trail field (e ∷ es) short all cut = ((short, all), joined comma (map ent
 pub trail_back : (field : List ℕ) (trail : List Entry) → trail_of field ≡ Some trail → IsTrailOf field trail
 trail_back field trail told = elim (cases_Bool (bytes_eq field none_text)) [
   | inl nothing ↦
-      let same : [] ≡ trail = some_same [] trail (sym (ap (λ b. cond b (Some []) (at_most 4 entry_of (parts_of comma field))) nothing) ∙ told) in
+      let same : [] ≡ trail = same_Some [] trail (sym (ap (λ b. cond b (Some []) (at_most 4 entry_of (parts_of comma field))) nothing) ∙ told) in
       subst (IsTrailOf field) same ((omega arith, tt), sym ((bytes_eq-Decides field none_text).0 nothing))
   | inr something ↦
       let entries = at_most_back entry_text entry_of IsEntry entry_back 4 (parts_of comma field) trail

@@ -1,13 +1,13 @@
 -- The fault of a text, line by line.
-use Rattle.std.proofs.Common.{◌≡◌, ℕ, suc, ◌+◌, List, [], ◌∷◌, length, Bool, true, false, cond, refl, sym, ap, ◌∙◌, inl, inr, Option, Some, None}
+use Rattle.std.proofs.Common.{◌≡◌, ℕ, ◌+◌, List, [], ◌∷◌, length, Bool, true, false, cond, refl, sym, ap, ◌∙◌, Option, Some, None}
 use Rattle.std.specs.Prelude.{◌==◌, ◌&&◌, nat_lt}
 use Rattle.std.specs.Option.{unwrap_or}
 use Rattle.std.specs.List.{onto_first}
-use Rattle.std.proofs.lemmas.Bool.{cases_Bool, cond-true, cond-false}
+use Rattle.std.proofs.lemmas.Bool.{cond-false}
 use Rattle.trace_text.specs.declared.fault.LineFault.{LineFault}
 use Rattle.trace_text.specs.declared.fault.LineFault.TheVariants.{At, Memory}
 use Rattle.trace_text.specs.Reading.{IsFault, IsFaultIn}
-use Rattle.trace_text.specs.Fields.{Test, Form, Place, lines_of_text, fields_of, first_wrong, first_fault, fault_from, wrong_in, wrong_at_end}
+use Rattle.trace_text.specs.Fields.{Form, Place, lines_of_text, fields_of, first_fault, fault_from, wrong_in, wrong_at_end}
 
 some_line : {Known : Type 0} (form : Form Known) (known : Known) (line : ℕ) (first : List ℕ) (test : Bool) (b : ℕ) (lines : List (List ℕ))
     → fault_from form known line (first ∷ cond test ([] ∷ lines) (onto_first b lines))
@@ -24,28 +24,10 @@ pub step : {Known : Type 0} (form : Form Known) (known : Known) (line : ℕ) (fi
 step form known line first [] = refl
 step form known line first (b ∷ behind) = some_line form known line first (b == 0x0a) b (lines_of_text behind)
 
-none_ne_some : {A : Type 0} (x : A) → Some x ≡ None → ⊥
-none_ne_some x e = cc
-
--- a line whose fields pass has as many as there are tests
-pub as_many : (number : ℕ) (tests : List Test) (fields : List (List ℕ)) → first_wrong number tests fields ≡ None → length fields ≡ length tests
-as_many number [] [] none = refl
-as_many number [] (f ∷ fs) none = absurd (none_ne_some number none)
-as_many number (t ∷ ts) [] none = absurd (none_ne_some number none)
-as_many number (t ∷ ts) (f ∷ fs) none = elim (cases_Bool (t f)) [
-  | inl passes ↦ ap suc (as_many (number + 1) ts fs (sym (cond-true (t f) (first_wrong (number + 1) ts fs) (Some number) passes) ∙ none))
-  | inr fails ↦ absurd (none_ne_some number (sym (cond-false (t f) (first_wrong (number + 1) ts fs) (Some number) fails) ∙ none))
-]
-
 -- the fault in a last line that no newline ends
 pub at_end_wrong : {Known : Type 0} (form : Form Known) (known : Known) (fields : List (List ℕ)) (field : ℕ)
     → wrong_in form known fields ≡ Some field → wrong_at_end form known fields ≡ field
 at_end_wrong form known fields field wrong = ap (λ w. unwrap_or w (length fields + 1)) wrong
-
-pub at_end_right : {Known : Type 0} (form : Form Known) (known : Known) (fields : List (List ℕ))
-    → wrong_in form known fields ≡ None → wrong_at_end form known fields ≡ length (form.tests known fields) + 1
-at_end_right form known fields right =
-    ap (λ w. unwrap_or w (length fields + 1)) right ∙ ap (λ n. n + 1) (as_many 1 (form.tests known fields) fields right)
 
 -- the fault of what is left is in its first line
 pub ended_here : {Known : Type 0} (form : Form Known) (known : Known) (line field : ℕ) (rest first behind : List ℕ) (whole : Option Place)

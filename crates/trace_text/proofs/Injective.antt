@@ -2,17 +2,17 @@
 use Rattle.std.proofs.Common.{◌≡◌, ℕ, ◌≤◌, List, [], ◌∷◌, ◌++◌, map, refl, sym, ap, ◌∙◌, subst, arith, Some}
 use Rattle.std.specs.List.{AllByRecursion, flat_map}
 use Rattle.std.proofs.lemmas.List.{append_cancel_right}
+use Rattle.std.proofs.lemmas.Option.{same_Some}
 use Rattle.trace_text.specs.Lines.{Line}
 use Rattle.trace_text.specs.Text.{line_body, line_text, trace_text}
 use Rattle.trace_text.specs.Fields.{lines_of_text, fields_of}
 use Rattle.trace_text.specs.Orders.{number_in, most_harts}
 use Rattle.trace_text.specs.Readings.{all_of}
 use Rattle.trace_text.specs.Traces.{IsLine, IsTrace}
-use Rattle.trace_text.proofs.Backs.{some_same}
 use Rattle.trace_text.proofs.Agains.{all_again}
 use Rattle.trace_text.proofs.LineTexts.{fields_again}
 use Rattle.trace_text.proofs.LinesTold.{line_told, told_again}
-use Rattle.trace_text.proofs.Sound.{header_body, header_number, trace_cut, line_cut}
+use Rattle.trace_text.proofs.Sound.{header_line, harts_told, trace_cut, line_cut}
 
 -- the lines that a trace's text has behind its first
 abbrev bodies : List Line → List (List ℕ)
@@ -24,9 +24,9 @@ bodies_cut harts most [] are = refl
 bodies_cut harts most (l ∷ lines) are =
     line_cut harts most l lines are.0 ∙ ap (λ (ls : List (List ℕ)). line_body l ∷ ls) (bodies_cut harts most lines are.1)
 
-whole_cut : (harts : ℕ) (lines : List Line) → IsTrace harts lines → lines_of_text (trace_text harts lines) ≡ header_body harts ∷ bodies lines
+whole_cut : (harts : ℕ) (lines : List Line) → IsTrace harts lines → lines_of_text (trace_text harts lines) ≡ header_line harts ∷ bodies lines
 whole_cut harts lines is =
-    trace_cut harts is.most lines ∙ ap (λ (ls : List (List ℕ)). header_body harts ∷ ls) (bodies_cut harts is.most lines is.are_lines)
+    trace_cut harts is.most lines ∙ ap (λ (ls : List (List ℕ)). header_line harts ∷ ls) (bodies_cut harts is.most lines is.are_lines)
 
 lines_again : (harts : ℕ) (lines : List Line) → IsTrace harts lines
     → all_of (λ body. line_told harts (fields_of body)) (map line_body lines) ≡ Some lines
@@ -41,12 +41,12 @@ cons_same x y xs ys e = (cc, cc)
 
 pub injective : (h g : ℕ) (ls ms : List Line) → IsTrace h ls → IsTrace g ms → trace_text h ls ≡ trace_text g ms → (h ≡ g) × (ls ≡ ms)
 injective h g ls ms is are same =
-    let cut : header_body h ∷ bodies ls ≡ header_body g ∷ bodies ms = sym (whole_cut h ls is) ∙ ap lines_of_text same ∙ whole_cut g ms are in
-    let parts = cons_same (header_body h) (header_body g) (bodies ls) (bodies ms) cut in
+    let cut : header_line h ∷ bodies ls ≡ header_line g ∷ bodies ms = sym (whole_cut h ls is) ∙ ap lines_of_text same ∙ whole_cut g ms are in
+    let parts = cons_same (header_line h) (header_line g) (bodies ls) (bodies ms) cut in
     let harts : h ≡ g =
-    sym (header_number h is.most) ∙ ap (λ body. number_in (fields_of body) 2) parts.0 ∙ header_number g are.most in
+    sym (harts_told h is.most) ∙ ap (λ body. number_in (fields_of body) 2) parts.0 ∙ harts_told g are.most in
     let lines : map line_body ls ≡ map line_body ms = append_cancel_right (map line_body ls) (map line_body ms) ([] ∷ []) parts.1 in
     let others : IsTrace h ms = subst (λ n. IsTrace n ms) (sym harts) are in (
       harts,
-      some_same ls ms (sym (lines_again h ls is) ∙ ap (all_of (λ body. line_told h (fields_of body))) lines ∙ lines_again h ms others),
+      same_Some ls ms (sym (lines_again h ls is) ∙ ap (all_of (λ body. line_told h (fields_of body))) lines ∙ lines_again h ms others),
     )

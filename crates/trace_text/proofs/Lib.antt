@@ -26,3 +26,4 @@ pub mod Digits
 pub mod Joined
 pub mod Examples
 pub mod OrderExamples
+pub mod VisibleLines

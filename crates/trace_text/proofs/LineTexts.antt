@@ -1,5 +1,5 @@
 -- A line's text is cut into its fields, and these pass the tests of its kind.
-use Rattle.std.proofs.Common.{◌≡◌, ℕ, ◌+◌, ◌*◌, ◌<◌, ◌≤◌, ◌^◌, ◌==◌, List, [], ◌∷◌, length, get_or, map, true, false, refl, ap, ◌∙◌, arith, Option, Some, None, IfSome, is_some}
+use Rattle.std.proofs.Common.{◌≡◌, ℕ, ◌+◌, ◌*◌, ◌<◌, ◌≤◌, ◌^◌, List, [], ◌∷◌, length, get_or, map, true, refl, ap, ◌∙◌, arith, Option, Some, None, IfSome, is_some}
 use Rattle.std.specs.List.{AllByRecursion, AllZip, flat_map}
 use Rattle.std.specs.Fmt.{decimal}
 use Rattle.std.proofs.lemmas.Bool.{cond-true}
@@ -9,21 +9,19 @@ use Rattle.trace_text.specs.declared.line.Kind.TheVariants.{Ins, Mem, Jump, Csr,
 use Rattle.trace_text.specs.declared.line.Cause.{Cause}
 use Rattle.trace_text.specs.declared.line.Cause.TheVariants.{EmptyChoice, BudgetSpent, NoRegister, NoAddress, NoTarget, WindowFull, NoFreePage, NoPlace}
 use Rattle.trace_text.specs.Lines.{Name, Line, request, picked, weighed, fixed, given, settled, touched, made, found, ending, done, refused}
-use Rattle.trace_text.specs.Text.{space_byte, colon, comma, slash, joined_by, hex, word_text, byte_text, or_none, kind_text, cause_text, write_text, access_text, entry_text, trail_text, trap_text, step_fields, line_fields, line_body, letter_text}
+use Rattle.trace_text.specs.Text.{colon, comma, slash, joined_by, hex, word_text, byte_text, or_none, kind_text, cause_text, write_text, access_text, entry_text, trail_text, trap_text, step_fields, line_fields, line_body, letter_text}
 use Rattle.trace_text.specs.Numbers.{decimal_below}
 use Rattle.trace_text.specs.Fields.{Test, fields_of, first_wrong}
 use Rattle.trace_text.specs.Readings.{sizes, preambles}
 use Rattle.trace_text.specs.Traces.{IsAnyOf, IsName, IsWrite, IsAccess, IsEntry, IsTrap, IsStep, IsPath, IsLine, tells, step_tests, tests_for, line_forms}
-use Rattle.trace_text.proofs.Joins.{all_weaken, all_append, all_map, joined_all, Lacks, lacks, parts_again}
-use Rattle.trace_text.proofs.WordBytes.{IsVisible, word_visible, joined_visible, or_none_visible, any_holds, decimal_word, hex_word, wide_word, name_word, access_letter_word, mode_letter_word}
+use Rattle.trace_text.proofs.Joins.{all_weaken, all_append, all_map, Lacks}
+use Rattle.trace_text.proofs.VisibleLines.{decimal_visible, cut_fields, no_newline}
+use Rattle.trace_text.proofs.WordBytes.{IsVisible, word_visible, joined_visible, or_none_visible, any_holds, hex_word, wide_word, name_word, access_letter_word, mode_letter_word}
 use Rattle.trace_text.proofs.Spells.{Spells}
 use Rattle.trace_text.proofs.Spellings as spellings
 use Rattle.trace_text.proofs.Agains as agains
 
 -- The bytes of fields are above the space.
-
-decimal_visible : (n : ℕ) → n < 2 ^ 64 → IsVisible (decimal n)
-decimal_visible n small = word_visible (decimal n) (decimal_word n small)
 
 count_visible : (n : ℕ) → n < 2 ^ 32 → IsVisible (decimal n)
 count_visible n small = decimal_visible n (omega arith)
@@ -201,18 +199,6 @@ some_fields (found e) = omega arith
 some_fields (ending e) = omega arith
 some_fields (done hart k) = omega arith
 some_fields (refused hart k cause preamble) = omega arith
-
-pub visible_lacks : (byte : ℕ) → byte ≤ 0x20 → (text : List ℕ) → IsVisible text → Lacks byte text
-visible_lacks byte low text visible = lacks (λ b. 0x20 < b) byte (λ b above same. omega arith) text visible
-
--- visible fields that spaces part are cut at the spaces, and have no newline
-pub cut_fields : (fields : List (List ℕ)) → 1 ≤ length fields → AllByRecursion IsVisible fields → fields_of (joined_by space_byte fields) ≡ fields
-cut_fields fields some visible =
-    parts_again space_byte fields some (all_weaken IsVisible (Lacks space_byte) (visible_lacks space_byte (omega arith)) fields visible)
-
-pub no_newline : (fields : List (List ℕ)) → AllByRecursion IsVisible fields → Lacks 0x0a (joined_by space_byte fields)
-no_newline fields visible =
-    joined_all (λ b. (b == 0x0a) ≡ false) space_byte fields refl (all_weaken IsVisible (Lacks 0x0a) (visible_lacks 0x0a (omega arith)) fields visible)
 
 pub fields_again : (harts : ℕ) → harts ≤ 16 → (l : Line) → IsLine harts l → fields_of (line_body l) ≡ line_fields l
 fields_again harts most l is = cut_fields (line_fields l) (some_fields l) (fields_visible harts most l is)

@@ -14,15 +14,10 @@ use Rattle.std.proofs.lemmas.Str.{IsUtf8-from_ascii}
 use Rattle.std.proofs.lemmas.Str.Ascii.{IsAscii-nil, IsAscii-cons}
 use Rattle.std.proofs.lemmas.Fmt.{digits_is_IsNumeral}
 use Rattle.std.proofs.lemmas.Int.Digits.{digits_value-lt}
+use Rattle.std.proofs.lemmas.Option.{none-some, same_Some}
 use Rattle.trace_text.specs.Text.{wide_hex}
 use Rattle.trace_text.specs.Numbers.{spelled_by, number_below, wide_hex_of, is_plain, is_lower}
 use Rattle.trace_text.proofs.Bases.{AreDigits, digits_are, digits_plain, no_plus, plain_digits, wide_digits, wide_are, within_16_digits, length-wide_hex}
-
-none_ne_some : {A : Type 0} (x : A) → None ≡ Some x → ⊥
-none_ne_some x e = cc
-
-some_same : {A : Type 0} (x y : A) → Some x ≡ Some y → x ≡ y
-some_same x y e = cc
 
 module _ (spelling : ℕ → List ℕ) (base bound : ℕ) (field : List ℕ) where
   -- the field is the spelling of its value, which is below the bound
@@ -52,9 +47,9 @@ module _ (spelling : ℕ → List ℕ) (base bound : ℕ) (field : List ℕ) whe
   found n is = elim (cases_Bool spells) [
     | inl same_text ↦
         let parts = spells_Decides.0 same_text in
-        let same : digits_value base field ≡ n = some_same (digits_value base field) n (sym (spelled parts) ∙ is) in
+        let same : digits_value base field ≡ n = same_Some (digits_value base field) n (sym (spelled parts) ∙ is) in
         (same, omega (arith, parts.0), ap spelling (sym same) ∙ parts.1)
-    | inr other ↦ absurd (none_ne_some n (sym (cond-false spells (Some (digits_value base field)) None other) ∙ is))
+    | inr other ↦ absurd (none-some n (sym (cond-false spells (Some (digits_value base field)) None other) ∙ is))
   ]
 
 -- a spelling with its number for its value is read back

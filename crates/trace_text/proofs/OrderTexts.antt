@@ -1,36 +1,21 @@
 -- The lines of an order's text, as the reader sees them.
-use Rattle.std.proofs.Common.{◌≡◌, ◌≢◌, ℕ, suc, ◌+◌, ◌-◌, ◌<◌, ◌≤◌, ◌^◌, List, [], ◌∷◌, ◌++◌, length, replicate, Bool, true, false, cond, not, refl, sym, ap, subst, ◌∙◌, arith, append_assoc, inl, inr, Option, Some, None, add-one}
-use Rattle.std.specs.Prelude.{All, ◌==◌, codes, nat_lt}
+use Rattle.std.proofs.Common.{◌≡◌, ◌≢◌, ℕ, suc, ◌+◌, ◌-◌, ◌<◌, ◌≤◌, ◌^◌, List, [], ◌∷◌, ◌++◌, length, replicate, Bool, true, false, cond, not, refl, sym, ap, subst, ◌∙◌, arith, inl, inr, Option, Some, None, add-one}
+use Rattle.std.specs.Prelude.{All, ◌==◌, nat_lt}
 use Rattle.std.specs.List.{flat_map, AllByRecursion}
 use Rattle.std.specs.Option.{option_map_or}
 use Rattle.std.specs.Fmt.{decimal}
-use Rattle.std.specs.Str.Parse.{AllDigits, digits_value}
+use Rattle.std.specs.Str.Parse.{digits_value}
 use Rattle.std.proofs.lemmas.Bool.{ne_eqb, eq-eqb, lt-ltb, le-ltb, cases_eq, not_from_false, false≢true}
 use Rattle.std.proofs.lemmas.Fmt.{decimal_is_IsNumeral}
 use Rattle.std.proofs.lemmas.List.{length-append, length-replicate}
-use Rattle.std.proofs.lemmas.List.Elements.{All-append, All-from_recursion}
-use Rattle.std.proofs.lemmas.List.Splits.{slice_split_at, slice_split_none}
-use Rattle.std.proofs.lemmas.Str.Parse.{digit_from_value}
-use Rattle.trace_text.specs.Text.{Turns, with_turn, turns_of, turns_text, space, newline}
+use Rattle.trace_text.specs.Text.{Turns, with_turn, turns_of, turns_fields, turns_text, joined_by, space_byte}
 use Rattle.trace_text.specs.Numbers.{decimal_below}
 use Rattle.trace_text.specs.Fields.{lines_of_text, fields_of, fault_from, wrong_in, wrong_at_end, first_fault}
-use Rattle.trace_text.specs.Orders.{order_form, nothing, turns, steps_of, number_in, is_another_hart, is_decimal, most_steps}
+use Rattle.trace_text.specs.Orders.{order_form, turns, steps_of, number_in, is_another_hart, is_decimal, most_steps}
 use Rattle.trace_text.proofs.Numerals.{again}
 use Rattle.trace_text.proofs.Faults.{step}
-
-abbrev Lacks : ℕ → List ℕ → Type 0
-Lacks byte bytes = All (λ b. (b == byte) ≡ false) bytes
-
-digits_lack : (byte : ℕ) (ds : List ℕ) → byte < 48 → AllDigits 10 ds → AllByRecursion (λ b. (b == byte) ≡ false) ds
-digits_lack byte [] low digits = tt
-digits_lack byte (d ∷ ds) low digits = (ne_eqb d byte (λ e. omega (arith, digit_from_value d digits.0)), digits_lack byte ds low digits.1)
-
-pub decimal_lacks : (byte n : ℕ) → byte < 48 → n < 2 ^ 64 → Lacks byte (decimal n)
-decimal_lacks byte n low small =
-    All-from_recursion (λ b. (b == byte) ≡ false) (decimal n) (digits_lack byte (decimal n) low (decimal_is_IsNumeral n small).0.1)
-
-space_lacks : Lacks 0x0a (codes " ")
-space_lacks = All-from_recursion (λ b. (b == 0x0a) ≡ false) (codes " ") (refl, tt)
+use Rattle.trace_text.proofs.WordBytes.{IsVisible}
+use Rattle.trace_text.proofs.VisibleLines.{decimal_visible, cut_fields, no_newline, cut_line}
 
 pub value_of_decimal : (n : ℕ) → n < 2 ^ 64 → digits_value 10 (decimal n) ≡ n
 value_of_decimal n small = (decimal_is_IsNumeral n small).1
@@ -40,30 +25,20 @@ reads_again bound n below small = again decimal 10 bound n (value_of_decimal n s
 
 -- a line of an order without its newline
 abbrev pub turns_line : Turns → List ℕ
-turns_line t = decimal t.hart ++ space ++ decimal t.count
+turns_line t = joined_by space_byte (turns_fields t)
 
 pub record Small (t : Turns) : Type 0 where
   pub hart : t.hart < 2 ^ 64
   pub count : t.count < 2 ^ 64
 
+turns_visible : (t : Turns) → Small t → AllByRecursion IsVisible (turns_fields t)
+turns_visible t small = (decimal_visible t.hart small.hart, (decimal_visible t.count small.count, tt))
+
 pub line_of : (t : Turns) (rest : List ℕ) → Small t → lines_of_text (turns_text t ++ rest) ≡ turns_line t ∷ lines_of_text rest
-line_of t rest small =
-    let hart = decimal t.hart in
-    let count = decimal t.count in
-    let lacks : Lacks 0x0a (hart ++ space ++ count) =
-    All-append (λ b. (b == 0x0a) ≡ false) (hart ++ space) count
-    (All-append (λ b. (b == 0x0a) ≡ false) hart space (decimal_lacks 0x0a t.hart (omega arith) small.hart) space_lacks)
-    (decimal_lacks 0x0a t.count (omega arith) small.count) in
-    ap lines_of_text (append_assoc (turns_line t) newline rest)
-    ∙ slice_split_at (λ b. b == 0x0a) (turns_line t) 0x0a rest lacks refl
+line_of t rest small = cut_line (turns_line t) rest (no_newline (turns_fields t) (turns_visible t small))
 
 pub fields_of_line : (t : Turns) → Small t → fields_of (turns_line t) ≡ decimal t.hart ∷ decimal t.count ∷ []
-fields_of_line t small =
-    let hart = decimal t.hart in
-    let count = decimal t.count in
-    ap fields_of (append_assoc hart space count)
-    ∙ slice_split_at (λ b. b == 0x20) hart 0x20 count (decimal_lacks 0x20 t.hart (omega arith) small.hart) refl
-    ∙ ap (λ (fs : List (List ℕ)). hart ∷ fs) (slice_split_none (λ b. b == 0x20) count (decimal_lacks 0x20 t.count (omega arith) small.count))
+fields_of_line t small = cut_fields (turns_fields t) (omega arith) (turns_visible t small)
 
 abbrev pub Another : Option ℕ → ℕ → Type 0
 Another None hart = Unit {0}
@@ -195,26 +170,3 @@ pub turns_are : (harts : ℕ) (order : List ℕ) → All (λ hart. hart < harts)
 turns_are harts order named short =
     turns_from_runs harts None 0 (turns_of order) (runs_of harts order (all_recursion (λ hart. hart < harts) order named)) (begins_any (turns_of order))
     (omega (arith, ap length (steps_of_turns order)))
-
--- the first line of an order's text, and its fields
-abbrev pub header_line : ℕ → List ℕ
-header_line harts = codes "order 1 " ++ decimal harts
-
-pub fields_of_header : (harts : ℕ) → harts < 2 ^ 64 → fields_of (header_line harts) ≡ codes "order" ∷ codes "1" ∷ decimal harts ∷ []
-fields_of_header harts small =
-    ap (λ (fs : List (List ℕ)). codes "order" ∷ codes "1" ∷ fs) (slice_split_none (λ b. b == 0x20) (decimal harts) (decimal_lacks 0x20 harts (omega arith) small))
-
-header_lacks : Lacks 0x0a (codes "order 1 ")
-header_lacks = All-from_recursion (λ b. (b == 0x0a) ≡ false) (codes "order 1 ") (refl, (refl, (refl, (refl, (refl, (refl, (refl, (refl, tt))))))))
-
-pub header_cut : (harts : ℕ) (rest : List ℕ) → harts < 2 ^ 64
-    → lines_of_text (codes "order 1 " ++ decimal harts ++ newline ++ rest) ≡ header_line harts ∷ lines_of_text rest
-header_cut harts rest small =
-    ap lines_of_text (append_assoc (header_line harts) newline rest)
-    ∙ slice_split_at (λ b. b == 0x0a) (header_line harts) 0x0a rest
-    (All-append (λ b. (b == 0x0a) ≡ false) (codes "order 1 ") (decimal harts) header_lacks (decimal_lacks 0x0a harts (omega arith) small)) refl
-
-pub header_passes : (harts : ℕ) → 1 ≤ harts → harts ≤ 16 → wrong_in order_form nothing (fields_of (header_line harts)) ≡ None
-header_passes harts some few =
-    ap (wrong_in order_form nothing) (fields_of_header harts (omega arith))
-    ∙ ap (λ b. cond {A = Option ℕ} b None (Some 3)) (count_passes 17 harts some (omega arith) (omega arith))

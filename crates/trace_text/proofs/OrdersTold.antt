@@ -1,6 +1,7 @@
 -- The order that a text tells, and the text that tells an order.
-use Rattle.std.proofs.Common.{◌≡◌, ℕ, ◌+◌, ◌<◌, ◌≤◌, ◌^◌, List, [], ◌∷◌, ◌++◌, length, replicate, refl, sym, ap, subst, ◌∙◌, arith, append_assoc, Some, None, get_or, drop, Result, Ok, Err}
-use Rattle.std.specs.Prelude.{MatchResult, IfOk}
+use Rattle.std.proofs.Common.{◌≡◌, ℕ, ◌+◌, ◌≤◌, List, [], ◌∷◌, ◌++◌, length, replicate, refl, sym, ap, subst, ◌∙◌, arith, append_assoc, None, get_or, drop, Result, Ok, Err}
+use Rattle.std.specs.Prelude.{MatchResult, IfOk, codes}
+use Rattle.std.proofs.lemmas.Option.{none-some}
 use Rattle.trace_text.specs.declared.fault.LineFault.{LineFault}
 use Rattle.trace_text.specs.declared.fault.LineFault.TheVariants.{At, Memory}
 use Rattle.trace_text.specs.Reading.{Tells, IsFault}
@@ -11,8 +12,10 @@ use Rattle.trace_text.specs.Orders.{IsOrder, order_form, nothing, turns, steps_o
 use Rattle.trace_text.specs.Text.{order_text, turns_of, turns_text}
 use Rattle.trace_text.specs.Fields.{first_fault}
 use Rattle.trace_text.proofs.Faults.{step}
+use Rattle.trace_text.proofs.WordBytes.{IsVisible}
+use Rattle.trace_text.proofs.VisibleLines.{header_body, header_number, header_right, header_cut}
 use Rattle.trace_text.proofs.Told.{spelled}
-use Rattle.trace_text.proofs.OrderTexts.{header_line, header_cut, header_passes, fields_of_header, value_of_decimal, turns_are, no_fault, told_steps, steps_of_turns}
+use Rattle.trace_text.proofs.OrderTexts.{turns_are, no_fault, told_steps, steps_of_turns}
 
 -- one line more is told
 pub told_on : (order more rest first behind whole : List ℕ)
@@ -27,6 +30,9 @@ told_on order more rest first behind whole told cut is =
 pub counted : (order : List ℕ) (count hart : ℕ) → length (order ++ replicate count hart) ≡ length order + count
 counted order count hart = length-append order (replicate count hart) ∙ ap (λ n. length order + n) (length-replicate count hart)
 
+order_visible : IsVisible (codes "order")
+order_visible = omega arith
+
 -- The text of an order has no fault, and tells this order.
 pub told : (harts : ℕ) (order : List ℕ) → IsOrder harts order
     → (order_fault (order_text harts order) ≡ None) × (harts_told (order_text harts order) ≡ harts) × (order_told (order_text harts order) ≡ order)
@@ -34,27 +40,21 @@ told harts order is =
     let ts = turns_of order in
     let rest = flat_map turns_text ts in
     let text = order_text harts order in
-    let header = header_line harts in
+    let header = header_body (codes "order") harts in
     let few : harts ≤ 16 = is.most in
-    let some : 1 ≤ harts = is.some in
-    let small : harts < 2 ^ 64 = omega arith in
-    let cut : lines_of_text text ≡ header ∷ lines_of_text rest = header_cut harts rest small in
-    let number : number_in (fields_of header) 2 ≡ harts =
-    ap (λ (fs : List (List ℕ)). number_in fs 2) (fields_of_header harts small) ∙ value_of_decimal harts small in
+    let cut : lines_of_text text ≡ header ∷ lines_of_text rest = header_cut (codes "order") order_visible harts few rest in
+    let number : number_in (fields_of header) 2 ≡ harts = header_number (codes "order") order_visible harts few in
     let are = turns_are harts order is.named is.short in
     let sound : order_fault text ≡ None =
     ap (fault_from order_form nothing 1) cut
     ∙ step order_form nothing 1 header rest
-    ∙ ap (λ w. first_fault 1 w (fault_from order_form (turns (number_in (fields_of header) 2) None 0) 2 (lines_of_text rest))) (header_passes harts some few)
+    ∙ ap (λ w. first_fault 1 w (fault_from order_form (turns (number_in (fields_of header) 2) None 0) 2 (lines_of_text rest))) (header_right (codes "order") order_visible harts few is.some)
     ∙ ap (λ n. fault_from order_form (turns n None 0) 2 (lines_of_text rest)) number
     ∙ no_fault harts None 0 2 ts few (omega arith) are in (
       sound,
       ap (λ (ls : List (List ℕ)). number_in (fields_of (get_or ls 0 [])) 2) cut ∙ number,
       ap (λ (ls : List (List ℕ)). flat_map steps_of (drop 1 ls)) cut ∙ told_steps harts None 0 ts few are ∙ steps_of_turns order,
     )
-
-none_ne_some : {A : Type 0} (x : A) → None ≡ Some x → ⊥
-none_ne_some x e = cc
 
 -- What the reader answers with, where `items` shows the vector's elements.
 module _ {V : Type 0} (items : V → List ℕ) (text : List ℕ) where
@@ -74,4 +74,4 @@ module _ {V : Type 0} (items : V → List ℕ) (text : List ℕ) where
       (tells.harts_are ∙ ap harts_told same ∙ parts.1, tells.order_is ∙ ap order_told same ∙ parts.2)
   again_is (Err Memory) tells harts order is same = refl
   again_is (Err (At l f)) tells harts order is same =
-      absurd (none_ne_some (record { line = l; field = f }) (sym (told harts order is).0 ∙ ap order_fault (sym same) ∙ tells))
+      absurd (none-some (record { line = l; field = f }) (sym (told harts order is).0 ∙ ap order_fault (sym same) ∙ tells))

@@ -1,5 +1,5 @@
 -- The fault of a line, field by field.
-use Rattle.std.proofs.Common.{◌≡◌, ℕ, ◌+◌, List, [], ◌∷◌, true, cond, refl, sym, ap, ◌∙◌, Option, Some, Result, Ok, Err, subst}
+use Rattle.std.proofs.Common.{◌≡◌, ℕ, ◌+◌, List, ◌∷◌, true, cond, refl, sym, ap, ◌∙◌, Option, Some, Result, Ok, Err, subst}
 use Rattle.std.specs.Prelude.{MatchResult}
 use Rattle.std.specs.Result.{IsErrAnd}
 use Rattle.std.specs.Option.{is_some}
@@ -8,7 +8,7 @@ use Rattle.trace_text.specs.declared.fault.LineFault.{LineFault}
 use Rattle.trace_text.specs.declared.fault.LineFault.TheVariants.{At, Memory}
 use Rattle.trace_text.specs.Fields.{Test, first_wrong}
 use Rattle.trace_text.specs.Traces.{tells}
-use Rattle.trace_text.specs.Taking.{left, Took, Lacks, Leaves}
+use Rattle.trace_text.specs.Taking.{left, Took, Lacks}
 use Rattle.trace_text.specs.LineReading.{IsWrongBy}
 use Rattle.trace_text.specs.Reading.{IsFaultIn}
 use Rattle.trace_text.specs.Orders.{is_word}
@@ -19,31 +19,21 @@ pub lacks_here : (test : Test) (tests : List Test) (old : Fields) (fault : LineF
 lacks_here test tests old (At l f) lacks = (lacks.0, lacks.2 tests ∙ ap Some (sym lacks.1))
 lacks_here test tests old Memory lacks = tt
 
-passes : {A : Type 0} (reading : List ℕ → Option A) (a : A) (tests : List Test) (number : ℕ) (field : List ℕ) (fields : List (List ℕ))
-    → reading field ≡ Some a → first_wrong number (tells reading ∷ tests) (field ∷ fields) ≡ first_wrong (number + 1) tests fields
-passes reading a tests number field fields told =
-    ap (λ o. cond (is_some o) (first_wrong (number + 1) tests fields) (Some number)) told
-
--- or behind it
-pub wrong_behind : {A : Type 0} (reading : List ℕ → Option A) (a : A) (tests : List Test) (old new : Fields) (field : List ℕ) (fault : LineFault)
-    → Took old new field → reading field ≡ Some a → IsWrongBy tests new fault → IsWrongBy (tells reading ∷ tests) old fault
-wrong_behind reading a tests old new field (At l f) took told wrong = (
+-- or behind a field that passes
+pub passed : (test : Test) (tests : List Test) {old new : Fields} {field : List ℕ} (fault : LineFault)
+    → Took old new field → test field ≡ true → IsWrongBy tests new fault → IsWrongBy (test ∷ tests) old fault
+passed test tests {old} {new} {field} (At l f) took passes wrong = (
   wrong.0 ∙ took.line,
-  ap (λ fields. first_wrong old.number (tells reading ∷ tests) fields) took.fields
-      ∙ passes reading a tests old.number field (left new) told
+  ap (λ fields. first_wrong old.number (test ∷ tests) fields) took.fields
+      ∙ ap (λ b. cond b (first_wrong (old.number + 1) tests (left new)) (Some old.number)) passes
       ∙ ap (λ n. first_wrong n tests (left new)) (sym took.number) ∙ wrong.1,
 )
-wrong_behind reading a tests old new field Memory took told wrong = tt
+passed test tests {old} {new} {field} Memory took passes wrong = tt
 
--- a field is left
-pub too_many : (old : Fields) (fault : LineFault) → Leaves old fault → IsWrongBy [] old fault
-too_many old (At l f) leaves = (leaves.0, leaves.2 ∙ ap Some (sym leaves.1))
-too_many old Memory leaves = tt
-
--- the same behind a field that was taken
+-- or behind one that tells something
 pub after : {A : Type 0} (reading : List ℕ → Option A) {a : A} {Fits : Type 0} (tests : List Test) {old new : Fields} {field : List ℕ} (fault : LineFault)
     → Took old new field × (reading field ≡ Some a) × Fits → IsWrongBy tests new fault → IsWrongBy (tells reading ∷ tests) old fault
-after reading {a} {Fits} tests {old} {new} {field} fault taken wrong = wrong_behind reading a tests old new field fault taken.0 taken.1 wrong
+after reading {a} {Fits} tests {old} {new} {field} fault taken wrong = passed (tells reading) tests fault taken.0 (ap is_some taken.1) wrong
 
 -- what holds of the fault that an answer hands on
 pub handed_on : {V : Type 0} (P : V → Type 0) (Q : LineFault → Type 0) (result : Result V LineFault) (fault : LineFault)
@@ -60,17 +50,6 @@ taken reading a text field old new back told fields line number = (
   ap reading back.1 ∙ told,
   back.0,
 )
-
--- the same behind a field that passed a test
-pub passed : (test : Test) (tests : List Test) {old new : Fields} {field : List ℕ} (fault : LineFault)
-    → Took old new field → test field ≡ true → IsWrongBy tests new fault → IsWrongBy (test ∷ tests) old fault
-passed test tests {old} {new} {field} (At l f) took passes wrong = (
-  wrong.0 ∙ took.line,
-  ap (λ fields. first_wrong old.number (test ∷ tests) fields) took.fields
-      ∙ ap (λ b. cond b (first_wrong (old.number + 1) tests (left new)) (Some old.number)) passes
-      ∙ ap (λ n. first_wrong n tests (left new)) (sym took.number) ∙ wrong.1,
-)
-passed test tests {old} {new} {field} Memory took passes wrong = tt
 
 -- the fault of a whole line
 pub from_start : (tests : List Test) (line : ℕ) (fields : List (List ℕ)) (old : Fields) (fault : LineFault)

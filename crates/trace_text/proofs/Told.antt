@@ -9,22 +9,21 @@ use Rattle.std.proofs.lemmas.Bool.{ne_eqb, eq-eqb, eqb-true, ltb-false, not-true
 use Rattle.std.proofs.lemmas.List.Elements.{All-append, All-from_recursion}
 use Rattle.std.proofs.lemmas.List.Splits.{join_with_byte-slice_split}
 use Rattle.std.proofs.lemmas.Slice.Eq.{bytes_eq-Decides}
-use Rattle.trace_text.specs.Text.{Turns, with_turn, turns_of, turns_text, order_text, space, newline}
+use Rattle.std.proofs.lemmas.Option.{none-some}
+use Rattle.trace_text.specs.Text.{Turns, with_turn, turns_of, turns_text, header_text, order_text, newline}
 use Rattle.trace_text.specs.Numbers.{decimal_below}
 use Rattle.trace_text.specs.Fields.{Test, Place, lines_of_text, fields_of, fault_from, wrong_in, first_wrong, first_fault}
 use Rattle.trace_text.specs.Orders.{IsOrder, order_form, nothing, turns, steps_of, number_in, is_another_hart, is_decimal, is_word, most_steps, order_fault, order_told, harts_told}
 use Rattle.trace_text.proofs.Numerals as numerals
 use Rattle.trace_text.proofs.OrderTexts.{AreTurns, Another, Begins, turns_line, steps_in, steps_more}
 use Rattle.trace_text.proofs.Runs.{run}
-
-some_ne_none : {A : Type 0} (x : A) → Some x ≡ None → ⊥
-some_ne_none x e = cc
+use Rattle.trace_text.proofs.VisibleLines.{header_body}
 
 -- Fields that pass, and what they spell.
 
 passed : (b : Bool) (x : Option ℕ) (n : ℕ) → cond {A = Option ℕ} b x (Some n) ≡ None → (b ≡ true) × (x ≡ None)
 passed true x n none = (refl, none)
-passed false x n none = absurd (some_ne_none n none)
+passed false x n none = absurd (none-some n (sym none))
 
 record TwoFields (s t : Test) (fields : List (List ℕ)) : Type 0 where
   first : List ℕ
@@ -34,15 +33,15 @@ record TwoFields (s t : Test) (fields : List (List ℕ)) : Type 0 where
   second_passes : t second ≡ true
 
 two_fields : (s t : Test) (fields : List (List ℕ)) (number : ℕ) → first_wrong number (s ∷ t ∷ []) fields ≡ None → TwoFields s t fields
-two_fields s t [] number none = absurd (some_ne_none number none)
-two_fields s t (a ∷ []) number none = absurd (some_ne_none (number + 1) (passed (s a) (Some (number + 1)) number none).1)
+two_fields s t [] number none = absurd (none-some number (sym none))
+two_fields s t (a ∷ []) number none = absurd (none-some (number + 1) (sym (passed (s a) (Some (number + 1)) number none).1))
 two_fields s t (a ∷ b ∷ []) number none =
     let p = passed (s a) (cond (t b) None (Some (number + 1))) number none in
     let q = passed (t b) None (number + 1) p.1 in
     record { first = a; second = b; are = refl; first_passes = p.0; second_passes = q.0 }
 two_fields s t (a ∷ b ∷ c ∷ fs) number none =
     let p = passed (s a) (cond (t b) (Some (number + 1 + 1)) (Some (number + 1))) number none in
-    absurd (some_ne_none (number + 1 + 1) (passed (t b) (Some (number + 1 + 1)) (number + 1) p.1).1)
+    absurd (none-some (number + 1 + 1) (sym (passed (t b) (Some (number + 1 + 1)) (number + 1) p.1).1))
 
 another_from : (last : Option ℕ) (hart : ℕ) → option_map_or (λ before. not (before == hart)) last true ≡ true → Another last hart
 another_from None hart test = tt
@@ -80,17 +79,17 @@ record ToldTurns (harts : ℕ) (last : Option ℕ) (steps : ℕ) (lines : List (
   told : flat_map steps_of lines ≡ flat_map steps_in ts
 
 unfaulted : (line : ℕ) (wrong : Option ℕ) (behind : Option Place) → first_fault line wrong behind ≡ None → (wrong ≡ None) × (behind ≡ None)
-unfaulted line (Some field) behind none = absurd (some_ne_none (record { line = line; field = field }) none)
+unfaulted line (Some field) behind none = absurd (none-some (record { line = line; field = field }) (sym none))
 unfaulted line None behind none = (refl, none)
 
 at_end : (b : Bool) (p : Place) → cond {A = Option Place} b None (Some p) ≡ None → b ≡ true
 at_end true p none = refl
-at_end false p none = absurd (some_ne_none p none)
+at_end false p none = absurd (none-some p (sym none))
 
-turn_text : (first a b : List ℕ) (h n : ℕ) → fields_of first ≡ a ∷ b ∷ [] → decimal h ≡ a → decimal n ≡ b → first ≡ decimal h ++ space ++ decimal n
+turn_text : (first a b : List ℕ) (h n : ℕ) → fields_of first ≡ a ∷ b ∷ [] → decimal h ≡ a → decimal n ≡ b → first ≡ turns_line (record { hart = h; count = n })
 turn_text first a b h n fields hart count =
-    sym (join_with_byte-slice_split 0x20 first) ∙ ap (join_with_byte 0x20) fields ∙ sym (append_assoc a space b)
-    ∙ ap (λ (l : List ℕ). l ++ space ++ b) (sym hart) ∙ ap (λ (l : List ℕ). decimal h ++ space ++ l) (sym count)
+    sym (join_with_byte-slice_split 0x20 first) ∙ ap (join_with_byte 0x20) fields
+    ∙ ap (λ (l : List ℕ). join_with_byte 0x20 (l ∷ b ∷ [])) (sym hart) ∙ ap (λ (l : List ℕ). join_with_byte 0x20 (decimal h ∷ l ∷ [])) (sym count)
 
 lines_told : (harts : ℕ) (last : Option ℕ) (steps line : ℕ) (lines : List (List ℕ)) → 1 < line → steps ≤ most_steps
     → fault_from order_form (turns harts last steps) line lines ≡ None → ToldTurns harts last steps lines
@@ -176,7 +175,7 @@ record HeaderFields (fields : List (List ℕ)) : Type 0 where
   spells : Spells 1 17 harts
 
 header_fields : (fields : List (List ℕ)) → wrong_in order_form nothing fields ≡ None → HeaderFields fields
-header_fields [] none = absurd (some_ne_none 1 none)
+header_fields [] none = absurd (none-some 1 (sym none))
 header_fields (a ∷ fs) none =
     let one = passed (is_word (codes "order") a) (first_wrong 2 (is_word (codes "1") ∷ is_decimal 1 17 ∷ []) fs) 1 none in
     let two = two_fields (is_word (codes "1")) (is_decimal 1 17) fs 2 one.1 in
@@ -216,15 +215,16 @@ spelled_lines text (first ∷ next ∷ lines) cut none =
       named = named_turns harts None 0 rest.ts rest.are;
       short = short_order harts rest.ts rest.are;
     } in
-    let first_is : first ≡ codes "order 1 " ++ decimal harts =
-    sym (join_with_byte-slice_split 0x20 first) ∙ ap (join_with_byte 0x20) header.are ∙ ap (λ (l : List ℕ). codes "order 1 " ++ l) (sym name) in
+    let first_is : first ≡ header_body (codes "order") harts =
+    sym (join_with_byte-slice_split 0x20 first) ∙ ap (join_with_byte 0x20) header.are
+    ∙ ap (λ (l : List ℕ). join_with_byte 0x20 (codes "order" ∷ codes "1" ∷ l ∷ [])) (sym name) in
     let tail = flat_map turns_text rest.ts in
     let spelling : text ≡ order_text harts order =
     sym (join_with_byte-slice_split 0x0a text) ∙ ap (join_with_byte 0x0a) cut
     ∙ ap (λ (l : List ℕ). first ++ (0x0a ∷ l)) rest.text
     ∙ ap (λ (l : List ℕ). l ++ (0x0a ∷ tail)) first_is
-    ∙ sym (append_assoc (codes "order 1 " ++ decimal harts) newline tail)
-    ∙ ap (λ (ts : List Turns). codes "order 1 " ++ decimal harts ++ newline ++ flat_map turns_text ts) (sym (turns_again harts None 0 rest.ts rest.are)) in
+    ∙ sym (append_assoc (header_body (codes "order") harts) newline tail)
+    ∙ ap (λ (ts : List Turns). header_text (codes "order") harts ++ flat_map turns_text ts) (sym (turns_again harts None 0 rest.ts rest.are)) in
     subst (IsTextOf text harts) (sym rest.told) (is, spelling)
 
 pub spelled : (text : List ℕ) → order_fault text ≡ None

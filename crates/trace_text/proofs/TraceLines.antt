@@ -1,11 +1,13 @@
 -- The lines of a trace, read one after another.
-use Rattle.std.proofs.Common.{◌≡◌, ℕ, ◌+◌, ◌≤◌, List, [], ◌∷◌, ◌++◌, length, Bool, true, false, cond, refl, sym, ap, ◌∙◌, subst, append_assoc, arith, Some, None, Result, Ok, Err}
+use Rattle.std.proofs.Common.{◌≡◌, ℕ, ◌+◌, ◌≤◌, List, [], ◌∷◌, ◌++◌, length, Bool, true, false, cond, refl, sym, ap, ◌∙◌, subst, append_assoc, append-nil, arith, Some, None, Result, Ok, Err}
 use Rattle.std.specs.Prelude.{MatchResult, ◌==◌, ◌&&◌, nat_lt, codes}
 use Rattle.std.specs.Option.{unwrap_or}
-use Rattle.std.specs.List.{flat_map, join_with_byte, onto_first, AllByRecursion}
+use Rattle.std.specs.List.{flat_map, join_with_byte, onto_first}
 use Rattle.std.specs.Fmt.{decimal}
 use Rattle.std.proofs.lemmas.Bool.{ne_eqb}
+use Rattle.std.proofs.lemmas.Grind.{flat_map-append}
 use Rattle.std.proofs.lemmas.List.Splits.{join_with_byte-slice_split}
+use Rattle.std.proofs.lemmas.Option.{none-some}
 use Rattle.trace_text.specs.declared.fault.LineFault.{LineFault}
 use Rattle.trace_text.specs.declared.fault.LineFault.TheVariants.{At, Memory}
 use Rattle.trace_text.specs.declared.line.Line as code
@@ -42,15 +44,10 @@ fields_text text fields are = sym (join_with_byte-slice_split 0x20 text) ∙ ap 
 
 flat_more : (lines : List Line) (l : Line) (behind : List ℕ)
     → flat_map line_text (lines ++ l ∷ []) ++ behind ≡ flat_map line_text lines ++ (line_body l ++ (0x0a ∷ behind))
-flat_more [] l behind = ap (λ (t : List ℕ). t ++ behind) (append_nil_of (line_text l)) ∙ append_assoc (line_body l) newline behind
-  where
-    append_nil_of : (t : List ℕ) → t ++ [] ≡ t
-    append_nil_of [] = refl
-    append_nil_of (b ∷ t) = ap (λ (r : List ℕ). b ∷ r) (append_nil_of t)
-flat_more (m ∷ ms) l behind =
-    append_assoc (line_text m) (flat_map line_text (ms ++ l ∷ [])) behind
-    ∙ ap (λ (t : List ℕ). line_text m ++ t) (flat_more ms l behind)
-    ∙ sym (append_assoc (line_text m) (flat_map line_text ms) (line_body l ++ (0x0a ∷ behind)))
+flat_more lines l behind =
+    ap (λ (t : List ℕ). t ++ behind) (flat_map-append line_text lines (l ∷ []) ∙ ap (λ (t : List ℕ). flat_map line_text lines ++ t) (append-nil (line_text l)))
+    ∙ append_assoc (flat_map line_text lines) (line_text l) behind
+    ∙ ap (λ (t : List ℕ). flat_map line_text lines ++ t) (append_assoc (line_body l) newline behind)
 
 -- one line more is read
 pub text_on : (lines : List Line) (l : Line) (rest first behind text : List ℕ)
@@ -60,14 +57,6 @@ text_on lines l rest first behind text before cut fields =
     flat_more lines l behind
     ∙ ap (λ (f : List ℕ). flat_map line_text lines ++ (f ++ (0x0a ∷ behind))) (sym (fields_text first (line_fields l) fields))
     ∙ ap (λ (t : List ℕ). flat_map line_text lines ++ t) (sym (cut_text rest first behind cut)) ∙ before
-
-pub seen_on : (lines : List code.Line) (l : code.Line) → lines_seen (lines ++ l ∷ []) ≡ lines_seen lines ++ line_seen l ∷ []
-seen_on [] l = refl
-seen_on (m ∷ ms) l = ap (λ (r : List Line). line_seen m ∷ r) (seen_on ms l)
-
-pub all_on : (P : Line → Type 0) (lines : List Line) (l : Line) → AllByRecursion P lines → P l → AllByRecursion P (lines ++ l ∷ [])
-all_on P [] l all holds = (holds, tt)
-all_on P (m ∷ ms) l all holds = (all.0, all_on P ms l all.1 holds)
 
 -- a line that is read has no wrong field
 pub right_line : (harts : ℕ) → harts ≤ 16 → (l : Line) (fields : List (List ℕ)) → fields ≡ line_fields l → IsLine harts l
@@ -99,9 +88,6 @@ whole_text harts lines bytes first behind cut fields rest =
     ∙ ap (λ (t : List ℕ). header ++ 0x0a ∷ t) rest
     ∙ sym (append_assoc header newline (flat_map line_text lines))
 
-none_ne_some : {A : Type 0} (x : A) → None ≡ Some x → ⊥
-none_ne_some x e = cc
-
 -- What the reader answers with, where `items` shows the vector's elements.
 pub again_is : {V : Type 0} (items : V → List code.Line) (text : List ℕ) (r : Result (ℕ × V) LineFault)
     → MatchResult r (λ read. IsTrace read.0 (lines_seen (items read.1)) × (text ≡ trace_text read.0 (lines_seen (items read.1)))) (λ fault. IsFault (trace_fault text) fault)
@@ -111,7 +97,7 @@ again_is items text (Ok read) reads harts lines is same =
     injective read.0 harts (lines_seen (items read.1)) lines reads.0 is (sym reads.1 ∙ same)
 again_is items text (Err Memory) reads harts lines is same = refl
 again_is items text (Err (At l f)) reads harts lines is same =
-    absurd (none_ne_some (record { line = l; field = f }) (sym (sound harts lines is) ∙ ap trace_fault (sym same) ∙ reads))
+    absurd (none-some (record { line = l; field = f }) (sym (sound harts lines is) ∙ ap trace_fault (sym same) ∙ reads))
 
 -- what is left is no empty text
 pub some_left : (rest : List ℕ) (line : ℕ) → 1 ≤ length rest → (length rest == 0 && nat_lt 1 line) ≡ false

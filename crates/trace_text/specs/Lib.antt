@@ -1,3 +1,4 @@
+pub mod Bounds
 pub mod Trails
 pub mod Parts
 pub mod Lines

@@ -1,11 +1,12 @@
 -- What each field of a trace tells; none where the field isn't as it must be.
-use Rattle.std.specs.Prelude.{ℕ, ◌^◌, ◌*◌, Bool, ◌==◌, nat_le, List, [], ◌∷◌, length, codes, Option, Some, None, option_map, if◌then◌else◌}
+use Rattle.std.specs.Prelude.{ℕ, Bool, ◌==◌, nat_le, List, [], ◌∷◌, length, codes, Option, Some, None, option_map, if◌then◌else◌}
 use Rattle.std.specs.List.{find, list_any, slice_split}
 use Rattle.std.specs.Str.{bytes_eq}
 use Rattle.std.specs.Str.Parse.{digits_value}
 use Rattle.rv_fields.specs.Attempt.{◌>>=◌}
 use Rattle.rv_fields.specs.Name.{is_name}
 use Rattle.rv_fields.specs.Effect.{Access, Entry, TrapTaken}
+use Rattle.trace_text.specs.Bounds.{count_bound, hex_bound, register_bound, space_bound, trap_bound, most_labels, most_bytes, most_entries, sized_bound}
 use Rattle.trace_text.specs.declared.line.Kind.{Kind}
 use Rattle.trace_text.specs.declared.line.Kind.TheVariants.{Ins, Mem, Jump, Csr, Sys, Value, Loop, Pick, Set}
 use Rattle.trace_text.specs.declared.line.Cause.{Cause}
@@ -60,7 +61,7 @@ name_of field = if is_name field then Some field else None
 
 -- a number that counts something
 abbrev pub count_of : List ℕ → Option ℕ
-count_of field = decimal_below (2 ^ 32) field
+count_of field = decimal_below count_bound field
 
 -- the field is one of these numbers
 abbrev pub number_of : List ℕ → List ℕ → Option ℕ
@@ -69,14 +70,14 @@ number_of numbers field = do
   if is_any_of numbers n then Some n else None
 
 abbrev pub hex_of : List ℕ → Option ℕ
-hex_of field = hex_below (2 ^ 64) field
+hex_of field = hex_below hex_bound field
 
 abbrev pub register_of : List ℕ → Option ℕ
-register_of field = if is_decimal 1 32 field then Some (digits_value 10 field) else None
+register_of field = if is_decimal 1 register_bound field then Some (digits_value 10 field) else None
 
 -- an address space
 abbrev pub space_of : List ℕ → Option ℕ
-space_of field = decimal_below 16 field
+space_of field = decimal_below space_bound field
 
 -- the parts of a field, parted by this byte
 abbrev pub parts_of : ℕ → List ℕ → List (List ℕ)
@@ -95,7 +96,7 @@ abbrev pub at_most : {A : Type 0} → ℕ → (List ℕ → Option A) → List (
 at_most most reading parts = if nat_le (length parts) most then all_of reading parts else None
 
 abbrev pub path_of : List ℕ → Option (List Name)
-path_of field = at_most 8 name_of (parts_of slash field)
+path_of field = at_most most_labels name_of (parts_of slash field)
 
 -- the digits of each byte
 abbrev pub pairs_of : List ℕ → List (List ℕ)
@@ -106,7 +107,7 @@ pairs_of (a ∷ b ∷ rest) = (a ∷ b ∷ []) ∷ pairs_of rest
 -- one byte at least
 abbrev pub bytes_of : List ℕ → Option (List ℕ)
 bytes_of [] = None
-bytes_of field = at_most 8 byte_of (pairs_of field)
+bytes_of field = at_most most_bytes byte_of (pairs_of field)
 
 -- a field that may tell that there is nothing
 abbrev pub optional : {A : Type 0} → (List ℕ → Option A) → List ℕ → Option (Option A)
@@ -121,7 +122,7 @@ write_in parts = None
 
 -- a number of so many bytes
 abbrev pub sized : ℕ → List ℕ → Option ℕ
-sized size field = hex_below (2 ^ (8 * size)) field
+sized size field = hex_below (sized_bound size) field
 
 abbrev pub access_in : List (List ℕ) → Option Access
 access_in (kind ∷ virtual ∷ physical ∷ size ∷ read ∷ wrote ∷ []) = do
@@ -143,7 +144,7 @@ entry_in parts = None
 
 abbrev pub trap_in : List (List ℕ) → Option TrapTaken
 trap_in (cause ∷ epc ∷ tval ∷ mode ∷ []) = do
-  c ← decimal_below 16 cause
+  c ← decimal_below trap_bound cause
   e ← hex_of epc
   t ← hex_of tval
   m ← letter_of mode_letters mode
@@ -163,4 +164,4 @@ abbrev pub trap_of : List ℕ → Option TrapTaken
 trap_of field = trap_in (parts_of colon field)
 
 abbrev pub trail_of : List ℕ → Option (List Entry)
-trail_of field = if bytes_eq field none_text then Some [] else at_most 4 entry_of (parts_of comma field)
+trail_of field = if bytes_eq field none_text then Some [] else at_most most_entries entry_of (parts_of comma field)

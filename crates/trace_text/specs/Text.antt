@@ -23,9 +23,6 @@ comma = 0x2c
 abbrev pub slash : ℕ
 slash = 0x2f
 
-abbrev pub space : List ℕ
-space = codes " "
-
 abbrev pub newline : List ℕ
 newline = codes "\n"
 
@@ -129,9 +126,12 @@ line_body line = joined_by space_byte (line_fields line)
 abbrev pub line_text : Line → List ℕ
 line_text line = line_body line ++ newline
 
--- the first line: what the text is, its version, and the number of harts
+-- the fields of the first line: what the text is, its version, and the number of harts
+abbrev pub header_fields : List ℕ → ℕ → List (List ℕ)
+header_fields kind harts = kind ∷ codes "1" ∷ decimal harts ∷ []
+
 abbrev pub header_text : List ℕ → ℕ → List ℕ
-header_text kind harts = joined_by space_byte (kind ∷ codes "1" ∷ decimal harts ∷ []) ++ newline
+header_text kind harts = joined_by space_byte (header_fields kind harts) ++ newline
 
 -- the trace of so many harts
 abbrev pub trace_text : ℕ → List Line → List ℕ
@@ -153,9 +153,13 @@ abbrev pub turns_of : List ℕ → List Turns
 turns_of [] = []
 turns_of (hart ∷ order) = with_turn hart (turns_of order)
 
+-- the fields of a line of an order behind the first: HART COUNT
+abbrev pub turns_fields : Turns → List (List ℕ)
+turns_fields t = decimal t.hart ∷ decimal t.count ∷ []
+
 abbrev pub turns_text : Turns → List ℕ
-turns_text t = decimal t.hart ++ space ++ decimal t.count ++ newline
+turns_text t = joined_by space_byte (turns_fields t) ++ newline
 
 -- the order in which so many harts step
 abbrev pub order_text : ℕ → List ℕ → List ℕ
-order_text harts order = codes "order 1 " ++ decimal harts ++ newline ++ flat_map turns_text (turns_of order)
+order_text harts order = header_text (codes "order") harts ++ flat_map turns_text (turns_of order)

@@ -1,10 +1,11 @@
 -- The form of a trace, and the traces that it spells.
-use Rattle.std.specs.Prelude.{ℕ, ◌^◌, ◌*◌, ◌<◌, ◌≤◌, false, List, [], ◌∷◌, length, codes, get_or, Option, Some, None, IsTrue, IfSome, if◌then◌else◌}
+use Rattle.std.specs.Prelude.{ℕ, ◌^◌, ◌<◌, ◌≤◌, false, List, [], ◌∷◌, length, codes, get_or, Option, Some, None, IsTrue, IfSome, if◌then◌else◌}
 use Rattle.std.specs.Option.{is_some}
 use Rattle.std.specs.List.{AllByRecursion}
 use Rattle.std.specs.Str.{bytes_eq}
 use Rattle.rv_fields.specs.Name.{is_name}
 use Rattle.rv_fields.specs.Effect.{Effect, Access, Entry, TrapTaken}
+use Rattle.trace_text.specs.Bounds.{count_bound, hex_bound, register_bound, space_bound, trap_bound, most_labels, most_bytes, most_entries, sized_bound}
 use Rattle.trace_text.specs.Lines.{Name, Line, hart_of, request, picked, weighed, fixed, given, settled, touched, made, found, ending, done, refused}
 use Rattle.trace_text.specs.Numbers.{decimal_below, word_of}
 use Rattle.trace_text.specs.Fields.{Test, Form, Place, fault_of}
@@ -22,61 +23,61 @@ IsName name = IsTrue (is_name name)
 -- a register that is written, and its new value
 pub record IsWrite (w : ℕ × ℕ) : Type 0 where
   pub some : 1 ≤ w.0
-  pub register : w.0 < 32
-  pub value : w.1 < 2 ^ 64
+  pub register : w.0 < register_bound
+  pub value : w.1 < hex_bound
 
 pub record IsAccess (a : Access) : Type 0 where
   pub kind : IsAnyOf access_letters a.kind
-  pub virtual : a.virtual < 2 ^ 64
-  pub physical : a.physical < 2 ^ 64
+  pub virtual : a.virtual < hex_bound
+  pub physical : a.physical < hex_bound
   pub size : IsAnyOf sizes a.size
-  pub read : IfSome a.read (λ n. n < 2 ^ (8 * a.size))
-  pub wrote : IfSome a.wrote (λ n. n < 2 ^ (8 * a.size))
+  pub read : IfSome a.read (λ n. n < sized_bound a.size)
+  pub wrote : IfSome a.wrote (λ n. n < sized_bound a.size)
 
 pub record IsEntry (e : Entry) : Type 0 where
-  pub at : e.at < 2 ^ 64
-  pub pte : e.pte < 2 ^ 64
+  pub at : e.at < hex_bound
+  pub pte : e.pte < hex_bound
 
 pub record IsTrap (t : TrapTaken) : Type 0 where
-  pub cause : t.cause < 16
-  pub epc : t.epc < 2 ^ 64
-  pub tval : t.tval < 2 ^ 64
+  pub cause : t.cause < trap_bound
+  pub epc : t.epc < hex_bound
+  pub tval : t.tval < hex_bound
   pub mode : IsAnyOf mode_letters t.mode
 
 pub record IsStep (e : Effect) : Type 0 where
-  pub pc : e.pc < 2 ^ 64
-  pub pa : e.pa < 2 ^ 64
+  pub pc : e.pc < hex_bound
+  pub pa : e.pa < hex_bound
   pub word : e.word < 2 ^ 32
   pub rd : IfSome e.rd IsWrite
   pub access : IfSome e.access IsAccess
-  pub short : length e.trail ≤ 4
+  pub short : length e.trail ≤ most_entries
   pub trail : AllByRecursion IsEntry e.trail
   pub trap : IfSome e.trap IsTrap
 
 pub record IsPath (path : List Name) : Type 0 where
   pub some : 1 ≤ length path
-  pub short : length path ≤ 8
+  pub short : length path ≤ most_labels
   pub named : AllByRecursion IsName path
 
 pub record AreBytes (bytes : List ℕ) : Type 0 where
   pub some : 1 ≤ length bytes
-  pub short : length bytes ≤ 8
+  pub short : length bytes ≤ most_bytes
   pub small : AllByRecursion (λ b. b < 2 ^ 8) bytes
 
 -- what a line tells is in its ranges
 abbrev pub KeepsRanges : Line → Type 0
-KeepsRanges (request hart k kind) = k < 2 ^ 32
-KeepsRanges (picked hart tree leaf drawn) = IsName tree × IsName leaf × (drawn < 2 ^ 64)
-KeepsRanges (weighed hart tree path weight) = IsName tree × IsPath path × (weight < 2 ^ 32)
-KeepsRanges (fixed hart register value) = (1 ≤ register) × (register < 32) × (value < 2 ^ 64)
-KeepsRanges (given hart object page frame) = IsName object × (page < 2 ^ 32) × (frame < 2 ^ 32)
-KeepsRanges (settled hart space entry) = (space < 16) × IsEntry entry
-KeepsRanges (touched hart at bytes) = (at < 2 ^ 64) × AreBytes bytes
+KeepsRanges (request hart k kind) = k < count_bound
+KeepsRanges (picked hart tree leaf drawn) = IsName tree × IsName leaf × (drawn < hex_bound)
+KeepsRanges (weighed hart tree path weight) = IsName tree × IsPath path × (weight < count_bound)
+KeepsRanges (fixed hart register value) = (1 ≤ register) × (register < register_bound) × (value < hex_bound)
+KeepsRanges (given hart object page frame) = IsName object × (page < count_bound) × (frame < count_bound)
+KeepsRanges (settled hart space entry) = (space < space_bound) × IsEntry entry
+KeepsRanges (touched hart at bytes) = (at < hex_bound) × AreBytes bytes
 KeepsRanges (made e) = IsStep e
 KeepsRanges (found e) = IsStep e
 KeepsRanges (ending e) = IsStep e
-KeepsRanges (done hart k) = k < 2 ^ 32
-KeepsRanges (refused hart k cause preamble) = (k < 2 ^ 32) × IsAnyOf preambles preamble
+KeepsRanges (done hart k) = k < count_bound
+KeepsRanges (refused hart k cause preamble) = (k < count_bound) × IsAnyOf preambles preamble
 
 -- a line of one of so many harts
 pub record IsLine (harts : ℕ) (line : Line) : Type 0 where

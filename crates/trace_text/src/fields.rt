@@ -129,9 +129,9 @@ impl<'a> Fields<'a> {
     {
         let fault = self.fault();
         let field = self.parts.next().ok_or(fault)?;
-        let told = numbers::decimal_below(field, 16).ok_or(fault)?;
+        let told = readings::space_of(field).ok_or(fault)?;
         self.number += 1;
-        Ok(told as u32)
+        Ok(told)
     }
 
     /// The number of words of a preamble.

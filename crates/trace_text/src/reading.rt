@@ -1,8 +1,8 @@
 //! The first line of a file, and what readers of lines share.
-ghost use Rattle.std.specs.Prelude.{◌≡◌, ◌≤◌, ◌+◌, None, [], ◌∷◌, codes, MatchResult};
+ghost use Rattle.std.specs.Prelude.{◌≡◌, ◌≤◌, ◌+◌, None, MatchResult};
 ghost use Rattle.std.specs.Option.{unwrap_or};
-ghost use Rattle.std.specs.Fmt.{decimal};
 ghost use Rattle.trace_text.specs.Fields.{fields_of, first_wrong};
+ghost use Rattle.trace_text.specs.Text.{header_fields};
 ghost use Rattle.trace_text.specs.Orders.{header_tests, number_in};
 ghost use Rattle.trace_text.specs.Reading.{IsFaultIn};
 
@@ -20,7 +20,7 @@ pub(crate) fn header(text: &[u8], kind: &str) -> Result<u8, LineFault>
     ensures { let fields = fields_of text.now in
         MatchResult result
         (λ harts. (first_wrong 1 (header_tests kind.now) fields ≡ None) × (harts ≡ number_in fields 2)
-        × (fields ≡ kind.now ∷ codes "1" ∷ decimal harts ∷ []) × (1 ≤ harts) × (harts ≤ 16))
+        × (fields ≡ header_fields kind.now harts) × (1 ≤ harts) × (harts ≤ 16))
         (λ fault. IsFaultIn (header_tests kind.now) 1 fields fault) }
 {
     let mut fields = Fields::of(1, text);

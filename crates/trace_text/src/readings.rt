@@ -5,7 +5,7 @@ ghost use Rattle.trace_text.specs.Trails.{entry_seen};
 ghost use Rattle.trace_text.specs.Views.{access_seen, trap_seen};
 ghost use Rattle.trace_text.specs.Text.{none_text, kind_text, cause_text};
 ghost use Rattle.trace_text.specs.Orders.{is_word, is_another_hart};
-ghost use Rattle.trace_text.specs.Readings.{told_by, kind_of, cause_of, count_of, letter_of, number_of, sizes, preambles, access_letters, mode_letters, register_of, hex_of, sized, optional, path_of, bytes_of, pairs_of, write_of, access_of, entry_of, trail_of, trap_of};
+ghost use Rattle.trace_text.specs.Readings.{told_by, kind_of, cause_of, count_of, letter_of, number_of, sizes, preambles, access_letters, mode_letters, register_of, space_of, hex_of, sized, optional, path_of, bytes_of, pairs_of, write_of, access_of, entry_of, trail_of, trap_of};
 
 use crate::entry::EntryText;
 use crate::line::{AccessText, Cause, Kind, TrapText};
@@ -38,6 +38,18 @@ const CAUSES: [Cause; 8] = [
     Cause::NoPlace,
 ];
 
+/// A decimal that counts something is below this.
+const COUNT_BOUND: u64 = 1 << 32;
+
+/// Registers are numbered below this.
+const REGISTER_BOUND: usize = 32;
+
+/// Address spaces are numbered below this.
+const SPACE_BOUND: u64 = 16;
+
+/// The causes of traps are numbered below this.
+const TRAP_BOUND: u64 = 16;
+
 /// No path has more labels.
 const MOST_LABELS: usize = 8;
 
@@ -55,7 +67,7 @@ fn is_none(field: &[u8]) -> bool
 pub(crate) fn register_of(field: &[u8]) -> Option<u8>
     ensures { result ≡ register_of field.now }
 {
-    Some(count_below(field, 32)? as u8)
+    Some(count_below(field, REGISTER_BOUND)? as u8)
 }
 
 /// The one of these letters that the field is.
@@ -92,7 +104,7 @@ pub(crate) fn preamble_of(field: &[u8]) -> Option<u32>
 pub(crate) fn count_of(field: &[u8]) -> Option<u32>
     ensures { result ≡ count_of field.now }
 {
-    Some(decimal_below(field, 1 << 32)? as u32)
+    Some(decimal_below(field, COUNT_BOUND)? as u32)
 }
 
 /// The register that was written, and its new value.
@@ -137,7 +149,7 @@ fn trap_of(field: &[u8]) -> Option<TrapText>
         return None;
     }
     Some(TrapText {
-        cause: decimal_below(cause, 16)?,
+        cause: decimal_below(cause, TRAP_BOUND)?,
         epc: hex_of(epc)?,
         tval: hex_of(tval)?,
         to: letter_of(b"MS", to)?,
@@ -215,6 +227,13 @@ pub(crate) fn optional_trap_of(field: &[u8]) -> Option<Option<TrapText>>
     } else {
         trap_of(field).map(Some)
     }
+}
+
+/// An address space.
+pub(crate) fn space_of(field: &[u8]) -> Option<u32>
+    ensures { result ≡ space_of field.now }
+{
+    Some(decimal_below(field, SPACE_BOUND)? as u32)
 }
 
 /// The kind of request whose name the field is.

@@ -1,4 +1,5 @@
 ghost use Rattle.std.specs.Prelude.{◌≡◌, ◌++◌, ◌∷◌, ◌<◌, [], length, map, Some, None, if◌then◌else◌, nat_lt};
+ghost use Rattle.trace_text.specs.Bounds.{most_entries};
 ghost use Rattle.trace_text.specs.Trails.{entry_seen};
 
 use crate::entry::EntryText;
@@ -20,6 +21,7 @@ pub struct TrailText {
 impl Model for TrailText {
     ghost use Rattle.std.specs.Prelude.{◌≡◌, ◌≤◌, List, take, length, map};
     ghost use Rattle.rv_fields.specs.Effect.{Entry};
+    ghost use Rattle.trace_text.specs.Bounds.{most_entries};
     ghost use Rattle.trace_text.specs.Trails.{entry_seen, padded};
 
     ghost Value = { List Entry };
@@ -28,7 +30,7 @@ impl Model for TrailText {
 
     ghost inverse = { λ entries. record { len = length entries; entries = padded entries } };
 
-    ghost invariant = { λ t. (t.len ≤ 4) × (length (map entry_seen (take t.len t.entries)) ≡ t.len) × (padded (map entry_seen (take t.len t.entries)) ≡ t.entries) };
+    ghost invariant = { λ t. (t.len ≤ most_entries) × (length (map entry_seen (take t.len t.entries)) ≡ t.len) × (padded (map entry_seen (take t.len t.entries)) ≡ t.entries) };
 }
 
 impl TrailText {
@@ -44,7 +46,7 @@ impl TrailText {
 
     /// The trail with one entry more at its end; none where it has four.
     pub fn with_entry(mut self, entry: EntryText) -> Option<TrailText>
-        ensures { result ≡ (if nat_lt (length self) 4 then Some (self ++ entry_seen entry ∷ []) else None) }
+        ensures { result ≡ (if nat_lt (length self) most_entries then Some (self ++ entry_seen entry ∷ []) else None) }
     {
         if self.len == MOST {
             return None;

@@ -1,6 +1,6 @@
-ghost use Rattle.std.specs.Prelude.{◌++◌, Some};
+ghost use Rattle.std.specs.Prelude.{[], ◌∷◌, Some};
 ghost use Rattle.std.specs.Fmt.{decimal};
-ghost use Rattle.trace_text.specs.Text.{space};
+ghost use Rattle.trace_text.specs.Text.{joined_by, space_byte};
 
 use std::fmt;
 
@@ -12,7 +12,7 @@ pub(crate) struct Turns {
 }
 
 impl fmt::Display for Turns {
-    ghost output = { λ turns. Some (decimal turns.hart ++ space ++ decimal turns.count) };
+    ghost output = { λ turns. Some (joined_by space_byte (decimal turns.hart ∷ decimal turns.count ∷ [])) };
 
     fn fmt<W: fmt::Write>(&self, f: &mut fmt::Formatter<W>) -> fmt::Result {
         let Turns { hart, count } = *self;

@@ -1,7 +1,7 @@
 ghost use Rattle.std.specs.Prelude.{◌≡◌, ◌++◌, length, take, Some, OnOk, OnErr};
 ghost use Rattle.std.specs.Fmt.{AppendsText, decimal, with_newline};
 ghost use Rattle.trace_text.specs.Views.{lines_seen};
-ghost use Rattle.trace_text.specs.Text.{space, trace_text, order_text};
+ghost use Rattle.trace_text.specs.Text.{trace_text, order_text};
 
 use crate::line::Line;
 use crate::turns::Turns;

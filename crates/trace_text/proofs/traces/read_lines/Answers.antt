@@ -5,9 +5,11 @@ use Rattle.trace_text.specs.Traces.{IsLine, trace_form}
 use Rattle.trace_text.specs.Reading.{lines_fault}
 use Rattle.trace_text.specs.Fields.{fields_of}
 use Rattle.trace_text.specs.Views.{line_seen, lines_seen}
+use Rattle.std.proofs.lemmas.List.{map-append}
+use Rattle.trace_text.proofs.Joins.{all_append}
 use Rattle.trace_text.proofs.Faults.{goes_on, stops_here, stops_at_end}
 use Rattle.trace_text.proofs.Taken.{handed_on}
-use Rattle.trace_text.proofs.TraceLines.{text_on, seen_on, all_on, right_line, open_line, some_left}
+use Rattle.trace_text.proofs.TraceLines.{text_on, right_line, open_line, some_left}
 use Rattle.trace_text.proofs.traces.read_lines.Goals as goal
 
 pub returns-in_err-line : goal.returns-in_err-line
@@ -30,13 +32,13 @@ loop-first-preserved c =
     let seen = line_seen line in
     let read = c.in_ok-line.ensures in
     let more : c.push.new.self.items ≡ lines ++ line ∷ [] = search rules in
-    let both : lines_seen c.push.new.self.items ≡ lines_seen lines ++ seen ∷ [] = ap lines_seen more ∙ seen_on lines line in
+    let both : lines_seen c.push.new.self.items ≡ lines_seen lines ++ seen ∷ [] = ap lines_seen more ∙ map-append line_seen lines (line ∷ []) in
     record {
       behind = omega (arith, before.behind);
       within = omega (arith, before.within, c.in-Some.ensures.shorter);
       fault = goes_on trace_form (Some harts) c.loop-first.number rest first behind (lines_fault harts c.args.text.now) before.fault c.in-Some.ensures.parts
           (right_line harts c.requires seen (fields_of first) read.0 read.1);
-      are = subst (AllByRecursion (IsLine harts)) (sym both) (all_on (IsLine harts) (lines_seen lines) seen before.are read.1);
+      are = subst (AllByRecursion (IsLine harts)) (sym both) (all_append (IsLine harts) (lines_seen lines) (seen ∷ []) before.are (read.1, tt));
       text_is = ap (λ ls. flat_map line_text ls ++ behind) both
           ∙ text_on (lines_seen lines) seen rest first behind c.args.text.now before.text_is c.in-Some.ensures.parts read.0;
     }
