@@ -1,8 +1,8 @@
 -- What the lines of the code's table say.
-use Rattle.std.specs.Prelude.{ℕ, ◌==◌, List, Bool, bit_and}
+use Rattle.std.specs.Prelude.{ℕ, List, Bool}
 use Rattle.std.specs.Str.{bytes_eq}
 use Rattle.rv_fields.specs.declared.row_table.Ins.{Ins}
-use Rattle.rv_fields.specs.RowTable.{Row, row_of, mask_of}
+use Rattle.rv_fields.specs.RowTable.{Row, row_of}
 use Rattle.rv_table.specs.declared.table.Entry.{Entry}
 
 -- an instruction with its row
@@ -17,10 +17,6 @@ listed entry = record { ins = entry.0; row = record { name = entry.2.now; form =
 -- the instruction with the row that the manual gives it
 abbrev pub defined : Ins → Listed
 defined ins = record { ins = ins; row = row_of ins }
-
--- the word is of the row
-abbrev pub is_of : ℕ → Listed → Bool
-is_of word l = bit_and word (mask_of l.row.form) == l.row.value
 
 -- the row has the name
 abbrev pub has_name : List ℕ → Listed → Bool

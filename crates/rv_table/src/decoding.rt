@@ -1,12 +1,13 @@
-ghost use Rattle.std.specs.Prelude.{◌≡◌, ◌↔◌, ◌<◌, Some, IfSome, option_map, find, if◌then◌else◌};
+ghost use Rattle.std.specs.Prelude.{◌≡◌, ◌↔◌, ◌<◌, Some, IfSome, option_map, if◌then◌else◌};
 ghost use Rattle.rv_fields.specs.declared.row_table.Ins.{Ins};
 ghost use Rattle.rv_fields.specs.RowTable.{Agrees};
 ghost use Rattle.rv_fields.specs.Decode.{Decoded, decoded, ins_at, fields_of, imm_of};
 ghost use Rattle.rv_fields.specs.Immediate.{bits_of};
-ghost use Rattle.rv_table.specs.Listing.{listed, defined, is_of};
+ghost use Rattle.rv_table.specs.Listing.{listed, defined};
 
-use crate::rows::mask;
-use crate::table::{Entry, entries};
+use crate::opcodes::candidate;
+use crate::rows::{line_of, mask};
+use crate::table::Entry;
 use rv_fields::{Form, Ins, Ops, bits_of, imm_b, imm_i, imm_j, imm_s, imm_u};
 
 /// The instruction and the operands that the word spells.
@@ -23,17 +24,12 @@ pub fn decode(word: u32) -> Option<(Ins, Ops)>
 fn entry_of(word: u32) -> Option<Entry>
     ensures { option_map listed result ≡ option_map defined (ins_at word) }
 {
-    first_of(entries(), word)
-}
-
-/// The first line of the table whose row agrees with the word.
-fn first_of(table: &[Entry], word: u32) -> Option<Entry>
-    ensures { result ≡ find (λ entry. is_of word (listed entry)) table.now }
-{
-    table
-        .iter()
-        .copied()
-        .find(|entry| word & mask(entry.1) == entry.3)
+    let entry = line_of(candidate(word)?);
+    if word & mask(entry.1) == entry.3 {
+        Some(entry)
+    } else {
+        None
+    }
 }
 
 /// The fields of the form in the word; those that it lacks are 0.

@@ -3,6 +3,7 @@
 
 mod decoding;
 mod naming;
+mod opcodes;
 mod rows;
 mod table;
 

@@ -23,7 +23,7 @@ pub fn row(ins: Ins) -> Row
 }
 
 /// The instruction's line of the table.
-fn line_of(ins: Ins) -> Entry
+pub fn line_of(ins: Ins) -> Entry
     ensures { listed result ≡ defined ins }
 {
     entry_at(entries(), ins as usize)
