@@ -1,14 +1,10 @@
 -- Worked examples, computed on the definitions. The first word is `addi x1,x0,5`.
-use Rattle.std.proofs.Common.{ℕ, ℤ, pos, negsuc, ◌-◌, ◌≡◌, refl, true, false, ◌&&◌, ◌||◌, List, [], ◌∷◌, codes, Option, Some, None}
-use Rattle.std.specs.Prelude.{nat_lt, if◌then◌else◌}
-use Rattle.std.specs.List.{slice_get}
+use Rattle.std.proofs.Common.{ℕ, ℤ, pos, negsuc, ◌≡◌, refl, true, false, ◌&&◌, ◌||◌, [], codes, Option, Some, None}
 use Rattle.rv_fields.specs.declared.row_table.Ins.{Ins}
 use Rattle.rv_fields.specs.declared.row_table.Ins.TheVariants.{Auipc, Addi, Bgeu, Sd, Slli, Sraiw, Sub, AmoaddD, LrW, Csrrw, Csrrsi, SfenceVma, Mret}
 use Rattle.rv_fields.specs.Immediate.{imm_i, imm_j, fits_i, fits_b, fits_u, fits_j, put_imm_i, put_imm_s, put_imm_b, put_imm_u, put_imm_j}
 use Rattle.rv_fields.specs.Name.{is_name}
 use Rattle.rv_fields.specs.Decode.{Decoded, decoded, ins_at}
-use Rattle.rv_fields.specs.Memory.{Seen}
-use Rattle.rv_fields.specs.Step.{Hart, step, retired, updated}
 
 -- an instruction with rd, rs1, rs2, imm and aqrl
 abbrev told_as : Ins → ℕ → ℕ → ℕ → ℤ → ℕ → Option Decoded
@@ -168,40 +164,3 @@ shortest_name = refl
 
 pub no_names : is_name [] || is_name (codes "Add") || is_name (codes "a b") || is_name (codes "abcdefghijklmnopqrstuvwxy") ≡ false
 no_names = refl
-
--- the memory that tells these bytes, from the place on
-abbrev bytes_at : ℕ → List ℕ → Seen
-bytes_at place bytes = record { byte = λ q. if nat_lt q place then None else slice_get bytes (q - place) }
-
-abbrev hart_at : ℕ → Hart
-hart_at pc = record { number = 0; pc = pc; x = λ q. 0 }
-
--- a step from the first code address goes on to 84000004 with x1 = 5
-pub steps : step (bytes_at 0x84000000 (0x93 ∷ 0 ∷ 0x50 ∷ 0 ∷ [])) (hart_at 0x84000000) ≡ Some (record {
-  effect = record { hart = 0; pc = 0x84000000; pa = 0x84000000; word = 0x00500093; rd = Some (1, 5); access = None; trail = []; trap = None };
-  hart = record { number = 0; pc = 0x84000004; x = updated (λ q. 0) 1 5 };
-})
-unfolding step retired ins_at
-steps = refl
-
--- a jump to itself stays at its address, and writes nothing
-pub stays : step (bytes_at 0x84000004 (0x6f ∷ 0 ∷ 0 ∷ 0 ∷ [])) (hart_at 0x84000004) ≡ Some (record {
-  effect = record { hart = 0; pc = 0x84000004; pa = 0x84000004; word = 0x0000006f; rd = None; access = None; trail = []; trap = None };
-  hart = hart_at 0x84000004;
-})
-unfolding step retired ins_at
-stays = refl
-
--- a jump to an address that is no multiple of 4 has no meaning yet: this one goes on by 2
-pub no_meaning : step (bytes_at 0x84000004 (0x6f ∷ 0 ∷ 0x20 ∷ 0 ∷ [])) (hart_at 0x84000004) ≡ None
-unfolding step retired ins_at
-no_meaning = refl
-
--- nor has a word that isn't told, nor one outside RAM
-pub not_told : step (bytes_at 0x84000000 (0x93 ∷ 0 ∷ 0x50 ∷ [])) (hart_at 0x84000000) ≡ None
-unfolding step retired ins_at
-not_told = refl
-
-pub not_in_ram : step (bytes_at 0x1000 (0x93 ∷ 0 ∷ 0x50 ∷ 0 ∷ [])) (hart_at 0x1000) ≡ None
-unfolding step retired ins_at
-not_in_ram = refl

@@ -7,3 +7,4 @@ pub mod Told
 pub mod CsrExamples
 pub mod OneCsr
 pub mod Names
+pub mod StepExamples

@@ -83,10 +83,17 @@ pub record Decoded : Type 0 where
   pub ins : Ins
   pub ops : Ops
 
--- The registers that an instruction reads, rs1 before rs2, each once. One that its form lacks is x0. In form K a number
--- stands in rs1's place; no meaning reads it yet.
+-- the register that is read as rs1; in form K a number stands in its place, and none is read but x0
+abbrev pub rs1_of_form : Form → Ops → ℕ
+rs1_of_form K ops = 0
+rs1_of_form form ops = ops.rs1
+
+abbrev pub rs1_read : Decoded → ℕ
+rs1_read d = rs1_of_form (form_of d.ins) d.ops
+
+-- The registers that an instruction reads, rs1 before rs2, each once. One that its form lacks is x0.
 abbrev pub sources : Decoded → List ℕ
-sources d = if d.ops.rs1 == d.ops.rs2 then d.ops.rs1 ∷ [] else d.ops.rs1 ∷ d.ops.rs2 ∷ []
+sources d = if rs1_read d == d.ops.rs2 then rs1_read d ∷ [] else rs1_read d ∷ d.ops.rs2 ∷ []
 
 abbrev pub decoded : ℕ → Option Decoded
 decoded word = option_map (λ ins. record { ins = ins; ops = fields_of (form_of ins) word }) (ins_at word)

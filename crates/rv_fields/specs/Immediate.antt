@@ -1,5 +1,5 @@
 -- The immediates of instruction words: numbers whose bits stand scattered in the word.
-use Rattle.std.specs.Prelude.{ℕ, suc, ◌+◌, ◌-◌, ◌*◌, ◌/◌, ◌%◌, ◌^◌, ℤ, pos, negsuc, List, [], ◌∷◌, nat_lt, Bool, ◌&&◌, ◌==◌, if◌then◌else◌}
+use Rattle.std.specs.Prelude.{ℕ, suc, ◌+◌, ◌-◌, ◌*◌, ◌/◌, ◌%◌, ◌^◌, ℤ, pos, negsuc, List, [], ◌∷◌, nat_le, nat_lt, Bool, ◌&&◌, ◌==◌, if◌then◌else◌}
 use Rattle.rv_fields.specs.declared.pieces.Piece.{Piece}
 
 -- the number in some neighbouring bits of a word, the lowest of them at place low
@@ -65,9 +65,9 @@ scattered (p ∷ pieces) n = bits_of n p.bit p.width * 2 ^ p.place + scattered p
 abbrev pub with_pieces : List Piece → ℕ → ℕ → ℕ
 with_pieces pieces word n = word - scattered pieces (gathered pieces word) + scattered pieces n
 
--- a piece that a word of 32 bits can have
+-- a piece of a word of 32 bits
 abbrev pub is_in_word : Piece → Bool
-is_in_word p = nat_lt p.place 32 && nat_lt p.width 32 && nat_lt p.bit 32
+is_in_word p = nat_lt p.place 32 && nat_lt p.width 32 && nat_le (p.place + p.width) 32 && nat_lt p.bit 32
 
 -- ---- reading an immediate: its bits that the word lacks are 0
 

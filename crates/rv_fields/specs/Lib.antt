@@ -4,12 +4,15 @@ pub mod Name
 pub mod RowTable
 pub mod Decode
 pub mod Meaning
+pub mod Class
 pub mod Field
 pub mod Status
 pub mod Csr
 pub mod CsrFile
 pub mod Trap
-pub mod Memory
 pub mod Effect
+pub mod Memory
+pub mod Sv39
+pub mod Hart
 pub mod Step
 pub mod Play

@@ -1,23 +1,46 @@
--- Harts that step over one memory, in a given order.
-use Rattle.std.specs.Prelude.{ℕ, ◌≡◌, List, [], ◌∷◌, Some}
-use Rattle.rv_fields.specs.Memory.{whole}
+-- Machines: harts that step over one memory, in a given order.
+use Rattle.std.specs.Prelude.{ℕ, ◌≡◌, ◌<◌, ◌^◌, List, [], ◌∷◌, length, Some, None}
+use Rattle.std.specs.List.{AllByRecursion}
+use Rattle.rv_fields.specs.declared.mode.Mode.TheVariants.{M}
+use Rattle.rv_fields.specs.CsrFile.{reset}
 use Rattle.rv_fields.specs.Effect.{Effect}
-use Rattle.rv_fields.specs.Step.{Hart, step, updated}
+use Rattle.rv_fields.specs.Hart.{Hart, updated}
+use Rattle.rv_fields.specs.Memory.{Seen, after_access}
+use Rattle.rv_fields.specs.Step.{step, Stepped}
 
--- a complete memory, and harts by number
+-- what is told of memory and links, and the harts by their numbers
 pub record Machine : Type 0 where
-  pub memory : ℕ → ℕ
+  pub seen : Seen
   pub harts : ℕ → Hart
 
--- the machine with another state of one hart
-abbrev pub with_hart : Machine → ℕ → Hart → Machine
-with_hart machine h hart = record { memory = machine.memory; harts = updated machine.harts h hart }
+-- the machine after a step of a hart: its effect alone tells what it left of memory
+abbrev pub after_step : Machine → ℕ → Stepped → Machine
+after_step machine h s = record { seen = after_access h s.effect.access machine.seen; harts = updated machine.harts h s.hart }
 
--- One step of the named hart for each number of the order gives exactly these effects.
-abbrev pub Plays : Machine → List ℕ → List Effect → Type 0
-Plays machine [] [] = Unit {0}
-Plays machine (h ∷ order) (e ∷ effects) = (next : Hart)
-    × (step (whole machine.memory) (machine.harts h) ≡ Some (record { effect = e; hart = next }))
-    × Plays (with_hart machine h next) order effects
-Plays machine [] (e ∷ effects) = ⊥
-Plays machine (h ∷ order) [] = ⊥
+-- One step of the named hart for each number of the order gives exactly these effects, and leads to the end.
+abbrev pub Plays : Machine → List ℕ → List Effect → Machine → Type 0
+Plays machine [] [] end = end ≡ machine
+Plays machine (h ∷ order) (e ∷ effects) end = (s : Stepped)
+    × (step machine.seen (machine.harts h) ≡ Some s)
+    × (s.effect ≡ e)
+    × Plays (after_step machine h s) order effects end
+Plays machine [] (e ∷ effects) end = ⊥
+Plays machine (h ∷ order) [] end = ⊥
+
+-- the address at which harts begin
+abbrev pub reset_pc : ℕ
+reset_pc = 0x80000000
+
+-- The hart stands at reset: in mode M, without a reservation, and with any values in its registers. Its CSRs are what
+-- writes of any raw values leave.
+pub record IsReset (h : ℕ) (hart : Hart) : Type 0 where
+  pub number : hart.number ≡ h
+  pub pc : hart.pc ≡ reset_pc
+  pub mode : hart.mode ≡ M
+  pub reserved : hart.reserved ≡ None
+  pub zero : hart.x 0 ≡ Some 0
+  pub registers : (r : ℕ) → (v : ℕ) × (hart.x r ≡ Some v) × (v < 2 ^ 64)
+  pub raw : List ℕ
+  pub raw_count : length raw ≡ 19
+  pub raw_small : AllByRecursion (λ v. v < 2 ^ 64) raw
+  pub csrs : hart.csrs ≡ reset h raw

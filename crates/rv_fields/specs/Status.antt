@@ -25,13 +25,25 @@ spp = bit 8
 abbrev pub mpp : Field
 mpp = record { low = 11; width = 2 }
 
--- loads and stores in mode M have the rights of the mode in MPP
+-- in mode M loads and stores are translated and checked as in the mode in MPP
 abbrev pub mprv : Field
 mprv = bit 17
+
+-- data accesses in mode S may use user pages
+abbrev pub sum : Field
+sum = bit 18
+
+-- loads may use pages that are only executable
+abbrev pub mxr : Field
+mxr = bit 19
 
 -- satp and sfence.vma are kept from mode S
 abbrev pub tvm : Field
 tvm = bit 20
+
+-- sret is kept from mode S
+abbrev pub tsr : Field
+tsr = bit 22
 
 -- satp: the kind of translation, 0 for none and 8 for Sv39
 abbrev pub satp_mode : Field

@@ -3,7 +3,9 @@ use Rattle.std.specs.Prelude.{ℕ, Bool, ◌==◌, if◌then◌else◌}
 use Rattle.std.specs.Int.{bit_at}
 use Rattle.rv_fields.specs.declared.mode.Mode.{Mode}
 use Rattle.rv_fields.specs.declared.mode.Mode.TheVariants.{U, S, M}
-use Rattle.rv_fields.specs.Field.{Field, field_of, with_field}
+use Rattle.rv_fields.specs.declared.csr.Csr.TheVariants.{Mepc, Sepc}
+use Rattle.rv_fields.specs.Csr.{csr_row}
+use Rattle.rv_fields.specs.Field.{Field, field_of, masked, with_field}
 use Rattle.rv_fields.specs.Status.{sie, mie, spie, mpie, spp, mpp, mprv, mode_number, mode_of}
 use Rattle.rv_fields.specs.CsrFile.{CsrFile}
 
@@ -41,12 +43,13 @@ popped stack status =
     let back = with_field stack.enable status (field_of stack.enable_before status) in
     with_field stack.mode_before (with_field stack.enable_before back 1) (mode_number U)
 
--- the file after a trap, from the mode in which it came, to the mode that handles it
+-- The file after a trap, from the mode in which it came, to the mode that handles it. The pc gets through the bits of
+-- sepc or mepc that a write changes.
 abbrev pub trapped_to : Mode → CsrFile → Mode → ℕ → ℕ → ℕ → CsrFile
 trapped_to S file mode cause epc tval =
-    record file { sepc = epc; scause = cause; stval = tval; mstatus = pushed s_stack file.mstatus mode }
+    record file { sepc = masked (csr_row Sepc).writable file.sepc epc; scause = cause; stval = tval; mstatus = pushed s_stack file.mstatus mode }
 trapped_to handler file mode cause epc tval =
-    record file { mepc = epc; mcause = cause; mtval = tval; mstatus = pushed m_stack file.mstatus mode }
+    record file { mepc = masked (csr_row Mepc).writable file.mepc epc; mcause = cause; mtval = tval; mstatus = pushed m_stack file.mstatus mode }
 
 abbrev pub trapped : CsrFile → Mode → ℕ → ℕ → ℕ → CsrFile
 trapped file mode cause epc tval = trapped_to (trap_mode file mode cause) file mode cause epc tval
