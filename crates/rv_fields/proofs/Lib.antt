@@ -8,3 +8,10 @@ pub mod CsrExamples
 pub mod OneCsr
 pub mod Names
 pub mod StepExamples
+pub mod Options
+pub mod Course
+pub mod MoreTold
+pub mod Opened
+pub mod AllTold
+pub mod Enough
+pub mod Truth

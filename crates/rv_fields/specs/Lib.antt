@@ -16,3 +16,4 @@ pub mod Sv39
 pub mod Hart
 pub mod Step
 pub mod Play
+pub mod Laws
