@@ -10,7 +10,7 @@ use Rattle.rv_fields.specs.Csr.{csr_row, no_bits}
 use Rattle.rv_fields.specs.Field.{masked, field_of, with_field}
 use Rattle.rv_fields.specs.Status.{mpp, satp_mode}
 use Rattle.rv_fields.specs.CsrFile.{CsrFile, source, held, with_held, shown, reading, changed_bits, written}
-use Rattle.rv_csr.proofs.Masks.{masked-masked, bit_at-masked}
+use Rattle.rv_fields.proofs.Masks.{masked-masked, bit_at-masked}
 
 -- what is held is what was put there
 held-with_held : (file : CsrFile) (csr : Csr) (value : ℕ) → held (with_held file csr value) csr ≡ value

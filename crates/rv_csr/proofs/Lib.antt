@@ -1,3 +1,1 @@
-pub mod Masks
 pub mod Laws
-pub mod Modes

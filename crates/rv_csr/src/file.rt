@@ -2,9 +2,11 @@ ghost use Rattle.std.specs.Prelude.{◌≡◌, ◌≢◌, ◌↔◌, ◌==◌, �
 ghost use Rattle.rv_fields.specs.CsrFile as machine;
 ghost use Rattle.rv_fields.specs.declared.csr.Csr.{Csr};
 ghost use Rattle.rv_fields.specs.Field.{field_of, masked};
+ghost use Rattle.rv_fields.specs.Ranges.{IsLegal};
 ghost use Rattle.rv_fields.specs.Status as status;
 
 mod reset;
+mod rights;
 mod trap;
 
 use crate::field::{Field, masked};
@@ -125,6 +127,8 @@ impl CsrFile {
             ≡ masked (machine.changed_bits csr value) (machine.reading self.old csr) value) }
         // MPP always has the number of a mode.
         ensures has_mode { status.HasMode self.old.mstatus → status.HasMode self.new.mstatus }
+        // No register gets a bit that a write can't change.
+        ensures stays_legal { IsLegal self.old → IsLegal self.new }
         ensures again { OnOk result (machine.written self.new csr value ≡ self.new) }
         ensures others { (other : Csr) → machine.source other ≢ machine.source csr
             → machine.reading self.new other ≡ machine.reading self.old other }

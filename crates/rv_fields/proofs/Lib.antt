@@ -14,4 +14,8 @@ pub mod MoreTold
 pub mod Opened
 pub mod AllTold
 pub mod Enough
+pub mod Masks
+pub mod Modes
+pub mod Legal
+pub mod Ranges
 pub mod Truth

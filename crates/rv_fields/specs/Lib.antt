@@ -17,3 +17,4 @@ pub mod Hart
 pub mod Step
 pub mod Play
 pub mod Laws
+pub mod Ranges

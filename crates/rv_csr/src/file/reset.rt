@@ -2,6 +2,7 @@
 
 ghost use Rattle.std.specs.Prelude.{◌≡◌};
 ghost use Rattle.rv_fields.specs.CsrFile as machine;
+ghost use Rattle.rv_fields.specs.Ranges.{IsLegal};
 ghost use Rattle.rv_fields.specs.Status as status;
 
 use super::{CsrFile, MIE, MPRV};
@@ -34,6 +35,7 @@ const ZERO: CsrFile = CsrFile {
 pub fn reset_of(hart: u8, raw: &[u64; 19]) -> CsrFile
     ensures value { result ≡ machine.reset hart raw.now }
     ensures has_mode { status.HasMode result.mstatus }
+    ensures legal { IsLegal result }
 {
     let mut file = ZERO;
     file.put_each(&CSRS[1..], &raw[1..]);

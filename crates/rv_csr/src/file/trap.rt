@@ -2,15 +2,16 @@
 
 ghost use Rattle.std.specs.Prelude.{◌≡◌, ◌==◌};
 ghost use Rattle.std.specs.Int.{bit_at};
+ghost use Rattle.rv_fields.specs.Ranges.{IsLegal};
 ghost use Rattle.rv_fields.specs.Status.{HasMode};
 ghost use Rattle.rv_fields.specs.Trap as machine;
 ghost use Rattle.rv_fields.specs.declared.mode.Mode.TheVariants.{S, M};
 
 use super::{CsrFile, MIE, MPP, MPRV};
-use crate::field::Field;
+use crate::field::{Field, masked};
 use crate::mode::mode_of;
 use crate::stack::Stack;
-use rv_fields::Mode;
+use rv_fields::{Csr, Mode, csr_row};
 
 const SIE: Field = Field { low: 1, width: 1 };
 
@@ -40,6 +41,7 @@ impl CsrFile {
         ensures pc { result.1 ≡ machine.handler_of self.old (machine.trap_mode self.old mode cause) }
         ensures file { self.new ≡ machine.trapped self.old mode cause epc tval }
         ensures has_mode { HasMode self.old.mstatus → HasMode self.new.mstatus }
+        ensures stays_legal { IsLegal self.old → IsLegal self.new }
     {
         match self.trap_mode(mode, cause) {
             Mode::S => (Mode::S, self.trap_to_s(mode, cause, epc, tval)),
@@ -52,8 +54,9 @@ impl CsrFile {
         ensures pc { result ≡ self.old.mtvec }
         ensures file { self.new ≡ machine.trapped_to M self.old mode cause epc tval }
         ensures has_mode { HasMode self.new.mstatus }
+        ensures stays_legal { IsLegal self.old → IsLegal self.new }
     {
-        self.mepc = epc;
+        self.mepc = masked(csr_row(Csr::Mepc).writable, self.mepc, epc);
         self.mcause = cause;
         self.mtval = tval;
         self.mstatus = M_STACK.pushed(self.mstatus, mode);
@@ -65,8 +68,9 @@ impl CsrFile {
         ensures pc { result ≡ self.old.stvec }
         ensures file { self.new ≡ machine.trapped_to S self.old mode cause epc tval }
         ensures has_mode { HasMode self.old.mstatus → HasMode self.new.mstatus }
+        ensures stays_legal { IsLegal self.old → IsLegal self.new }
     {
-        self.sepc = epc;
+        self.sepc = masked(csr_row(Csr::Sepc).writable, self.sepc, epc);
         self.scause = cause;
         self.stval = tval;
         self.mstatus = S_STACK.pushed(self.mstatus, mode);
@@ -79,6 +83,7 @@ impl CsrFile {
         ensures pc { result.1 ≡ self.old.mepc }
         ensures file { self.new ≡ machine.mret_done self.old }
         ensures has_mode { HasMode self.new.mstatus }
+        ensures stays_legal { IsLegal self.old → IsLegal self.new }
     {
         let mode = mode_of(MPP.of(self.mstatus));
         self.mstatus = mret_status(mode, self.mstatus);
@@ -91,6 +96,7 @@ impl CsrFile {
         ensures pc { result.1 ≡ self.old.sepc }
         ensures file { self.new ≡ machine.sret_done self.old }
         ensures has_mode { HasMode self.old.mstatus → HasMode self.new.mstatus }
+        ensures stays_legal { IsLegal self.old → IsLegal self.new }
     {
         let mode = mode_of(SPP.of(self.mstatus));
         self.mstatus = MPRV.with(S_STACK.popped(self.mstatus), 0);

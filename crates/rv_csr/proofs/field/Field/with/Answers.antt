@@ -1,7 +1,7 @@
 use Rattle.std.proofs.Common.{◌≡◌, ◌*◌, ◌^◌, ◌∙◌}
 use Rattle.rv_fields.specs.Field.{field_mask, with_field}
 use Rattle.rv_csr.specs.Views.{field_seen}
-use Rattle.rv_csr.proofs.Masks.{cut, mask_small, field_of-with_field, field_of-with_field_other}
+use Rattle.rv_fields.proofs.Masks.{cut, mask_small, field_of-with_field, field_of-with_field_other}
 use Rattle.rv_csr.proofs.field.Field.with.Goals as goal
 
 with_is : (c : goal.After-masked) → c.masked.result ≡ with_field (field_seen c.args.self) c.args.register c.args.value

@@ -2,7 +2,9 @@ use Rattle.std.proofs.Common.{sym, subst}
 use Rattle.rv_fields.specs.Status.{HasMode}
 use Rattle.rv_fields.specs.CsrFile.{CsrFile}
 use Rattle.rv_csr.proofs.Laws.{written-written, reading-written, reading-written_other}
-use Rattle.rv_csr.proofs.Modes.{written_mode}
+use Rattle.rv_fields.specs.Ranges.{IsLegal}
+use Rattle.rv_fields.proofs.Legal.{legal_written}
+use Rattle.rv_fields.proofs.Modes.{written_mode}
 use Rattle.rv_csr.proofs.file.CsrFile.write.Goals as goal
 
 pub returns-then-may_write-clause-reads : goal.returns-then-may_write-clause-reads
@@ -18,3 +20,6 @@ returns-then-may_write-clause-others c other apart =
 pub returns-then-may_write-clause-has_mode : goal.returns-then-may_write-clause-has_mode
 returns-then-may_write-clause-has_mode c has =
     subst (λ (file : CsrFile). HasMode file.mstatus) (sym c.put.ensures) (written_mode c.args.self.now c.args.csr c.args.value has)
+
+pub returns-then-may_write-clause-stays_legal : goal.returns-then-may_write-clause-stays_legal
+returns-then-may_write-clause-stays_legal c legal = subst IsLegal (sym c.put.ensures) (legal_written c.args.self.now c.args.csr c.args.value legal)

@@ -4,7 +4,9 @@ use Rattle.rv_fields.specs.Csr.{all_csrs}
 use Rattle.rv_fields.specs.Field.{with_field}
 use Rattle.rv_fields.specs.Status.{mie, mprv, HasMode}
 use Rattle.rv_fields.specs.CsrFile.{CsrFile, reset, zero_file, written_each}
-use Rattle.rv_csr.proofs.Modes.{reset_mode}
+use Rattle.rv_fields.specs.Ranges.{IsLegal}
+use Rattle.rv_fields.proofs.Legal.{legal_at_reset}
+use Rattle.rv_fields.proofs.Modes.{reset_mode}
 use Rattle.rv_csr.proofs.file.reset.reset_of.Goals as goal
 
 pub returns-clause-value : goal.returns-clause-value
@@ -21,3 +23,6 @@ returns-clause-value c =
 pub returns-clause-has_mode : goal.returns-clause-has_mode
 returns-clause-has_mode c =
     subst (λ (file : CsrFile). HasMode file.mstatus) (sym (returns-clause-value c)) (reset_mode c.args.hart c.args.raw.now)
+
+pub returns-clause-legal : goal.returns-clause-legal
+returns-clause-legal c = subst IsLegal (sym (returns-clause-value c)) (legal_at_reset c.args.hart c.args.raw.now (omega arith))

@@ -11,7 +11,7 @@ use Rattle.rv_fields.specs.Field.{Field, masked, field_of, with_field, AreApart}
 use Rattle.rv_fields.specs.Status.{sie, mie, spie, mpie, spp, mpp, mprv, HasMode, mode_number}
 use Rattle.rv_fields.specs.CsrFile.{CsrFile, held, with_held, changed_bits, written, zero_file, written_each, reset}
 use Rattle.rv_fields.specs.Trap.{m_stack, s_stack, pushed, popped, mret_status}
-use Rattle.rv_csr.proofs.Masks.{field_of-with_field, field_of-with_field_other, field_of-masked_inside, field_of-masked_outside}
+use Rattle.rv_fields.proofs.Masks.{field_of-with_field, field_of-with_field_other, field_of-masked_inside, field_of-masked_outside}
 
 numbers : (n : ℕ) → n ≡ 2 → eqb n 2 ≡ false → ⊥
 numbers n two other = both_ways (eqb n 2) other (eq-eqb n 2 two)
