@@ -2,13 +2,17 @@
 #![tactic(auto)]
 
 mod bus;
+mod class;
+mod control;
 mod hart;
+mod instruction;
+mod memory;
 mod outcome;
 mod stepping;
 
 pub use bus::Bus;
 pub use hart::{Hart, Stepped};
+pub use rv_csr::CsrFile;
+pub use rv_fields::{AccessKind, Accessed, Mode, Reserved, Trap};
 pub use stepping::step;
-
-#[cfg(test)]
-mod tests;
+pub use sv_walk::{PteAt, PteSource, Trail};

@@ -1,115 +1,108 @@
-//! What instructions compute.
+//! What instructions leave.
 
-ghost use Rattle.std.specs.Prelude.{◌≡◌, pos, ◌+ℤ◌, IsTrue, option_map};
-ghost use Rattle.rv_fields.specs.Immediate.{wrapped};
-ghost use Rattle.rv_fields.specs.RowTable.{form_of};
-ghost use Rattle.rv_fields.specs.Meaning.{is_alu, is_branch, computed, first_operand, second_operand};
-ghost use Rattle.rv_fields.specs.Step.{outcome, branch, jump, behind};
-ghost use Rattle.rv_step.specs.Views.{outcome_seen};
+ghost use Rattle.std.specs.Prelude.{◌≡◌};
+ghost use Rattle.rv_fields.specs.Step.{goes, traps, illegal, jump, branch, behind, moved_by};
+ghost use Rattle.rv_step.specs.declared.hart.Hart.{Hart};
+ghost use Rattle.rv_step.specs.Views.{hart_seen, outcome_seen};
+ghost use Rattle.rv_step.specs.Frames.{access_of, Leaves};
 
-use rv_alu::{alu, is_alu, is_branch, taken};
-use rv_table::{Form, Ins, Ops};
+use crate::hart::Hart;
+use rv_fields::Accessed;
+use rv_table::Ops;
+use sv_walk::Trail;
 
-/// What an instruction reads: its address, and the values of its source registers.
+/// What an instruction that retires leaves beside the hart's mode, its CSRs and its reservation, which the hart has
+/// then.
 #[derive(Clone, Copy)]
-pub struct Inputs {
-    pub pc: u64,
-    pub rs1: u64,
-    pub rs2: u64,
-}
-
-/// The value that an instruction gives to its rd, and the address of the next instruction.
-#[derive(Clone, Copy)]
-pub struct Outcome {
-    pub value: u64,
+pub struct Done {
+    /// The value of rd, if it gives one.
+    pub value: Option<u64>,
+    /// The address of the next instruction.
     pub next: u64,
+    pub access: Option<Accessed>,
+    /// The page table entries by which the access is translated.
+    pub trail: Trail,
 }
 
-/// What the instruction computes, whose row has the form. None where it doesn't retire, or has no meaning yet.
-pub fn outcome_of(ins: Ins, form: Form, ops: &Ops, inputs: Inputs) -> Option<Outcome>
-    requires { form ≡ form_of ins }
-    ensures { option_map outcome_seen result ≡ outcome ins ops.now inputs.pc inputs.rs1 inputs.rs2 }
-{
-    if is_alu(ins) {
-        Some(Outcome {
-            value: computed(ins, form, ops, inputs),
-            next: behind(inputs.pc),
-        })
-    } else if is_branch(ins) {
-        branch(ins, ops, inputs)
-    } else if ins == Ins::Jal {
-        jump(behind(inputs.pc), moved(inputs.pc, ops.imm))
-    } else {
-        None
-    }
+/// What comes of an instruction. One that raises a trap leaves the hart as it is.
+#[derive(Clone, Copy)]
+pub enum Outcome {
+    Retires(Done),
+    Raises { cause: u64, tval: u64, trail: Trail },
 }
 
-/// What a row that computes gives to its rd.
-fn computed(ins: Ins, form: Form, ops: &Ops, inputs: Inputs) -> u64
-    requires form { form ≡ form_of ins }
-    requires alu { IsTrue (is_alu ins) }
-    ensures { result ≡ computed ins ops.now inputs.pc inputs.rs1 inputs.rs2 }
-{
-    let first = first_operand(form, inputs.pc, inputs.rs1);
-    alu(ins, first, second_operand(form, ops, inputs.rs2))
-}
-
-/// The first operand of a row of the form that computes.
-fn first_operand(form: Form, pc: u64, rs1: u64) -> u64
-    ensures { result ≡ first_operand form pc rs1 }
-{
-    match form {
-        Form::U => pc,
-        _ => rs1,
-    }
-}
-
-/// The second operand of a row of the form that computes.
-fn second_operand(form: Form, ops: &Ops, rs2: u64) -> u64
-    ensures { result ≡ second_operand form ops.now rs2 }
-{
-    match form {
-        Form::R => rs2,
-        _ => ops.imm.cast_unsigned(),
-    }
-}
-
-/// Where a branch goes on. None where it is taken to a target that is no multiple of 4.
-fn branch(ins: Ins, ops: &Ops, inputs: Inputs) -> Option<Outcome>
-    requires { IsTrue (is_branch ins) }
-    ensures { option_map outcome_seen result ≡ branch ins ops.now inputs.pc inputs.rs1 inputs.rs2 }
-{
-    let Inputs { pc, rs1, rs2 } = inputs;
-    if taken(ins, rs1, rs2) {
-        jump(0, moved(pc, ops.imm))
-    } else {
-        Some(Outcome {
-            value: 0,
-            next: behind(pc),
+impl Hart {
+    /// It gives rd a value, or none, and goes on at this address.
+    pub fn goes(&self, value: Option<u64>, next: u64) -> Outcome
+        ensures outcome { outcome_seen self.now result ≡ goes (hart_seen self.now) value next }
+        ensures nothing { access_of result ≡ None }
+        ensures frame { Leaves self.now self.now result }
+    {
+        Outcome::Retires(Done {
+            value,
+            next,
+            access: None,
+            trail: Trail::new(),
         })
     }
+
+    /// A jump to the target, which has to be a multiple of 4.
+    pub fn jump(&self, value: Option<u64>, target: u64) -> Outcome
+        ensures outcome { outcome_seen self.now result ≡ jump (hart_seen self.now) value target }
+        ensures nothing { access_of result ≡ None }
+        ensures frame { Leaves self.now self.now result }
+    {
+        if target % 4 == 0 {
+            self.goes(value, target)
+        } else {
+            traps(0, target)
+        }
+    }
+
+    pub fn branch(&self, taken: bool, target: u64) -> Outcome
+        ensures outcome { outcome_seen self.now result ≡ branch (hart_seen self.now) taken target }
+        ensures nothing { access_of result ≡ None }
+        ensures frame { Leaves self.now self.now result }
+    {
+        if taken {
+            self.jump(None, target)
+        } else {
+            self.goes(None, self.behind())
+        }
+    }
+
+    /// The address behind the hart's instruction.
+    pub fn behind(&self) -> u64
+        ensures { result ≡ behind self.now.pc }
+    {
+        self.pc.wrapping_add(4)
+    }
 }
 
-/// A jump to the target. None where it is no multiple of 4.
-fn jump(value: u64, target: u64) -> Option<Outcome>
-    ensures { option_map outcome_seen result ≡ jump value target }
+pub fn traps(cause: u64, tval: u64) -> Outcome
+    ensures outcome { (h : Hart) → outcome_seen h result ≡ traps cause tval }
+    ensures nothing { access_of result ≡ None }
+    ensures frame { (h : Hart) → Leaves h h result }
 {
-    (target % 4 == 0).then_some(Outcome {
-        value,
-        next: target,
-    })
+    Outcome::Raises {
+        cause,
+        tval,
+        trail: Trail::new(),
+    }
 }
 
-/// The address behind an instruction.
-fn behind(pc: u64) -> u64
-    ensures { result ≡ behind pc }
+/// An instruction that the word is not, for this hart.
+pub fn illegal(word: u32) -> Outcome
+    ensures outcome { (h : Hart) → outcome_seen h result ≡ illegal word }
+    ensures nothing { access_of result ≡ None }
+    ensures frame { (h : Hart) → Leaves h h result }
 {
-    pc.wrapping_add(4)
+    traps(2, word.into())
 }
 
-/// The base with the offset added, modulo 2^64.
-fn moved(base: u64, offset: i64) -> u64
-    ensures { result ≡ wrapped (pos base +ℤ offset) }
+/// The address with the immediate added, modulo 2^64.
+pub fn moved_by(ops: &Ops, from: u64) -> u64
+    ensures { result ≡ moved_by ops.now from }
 {
-    base.wrapping_add_signed(offset)
+    from.wrapping_add_signed(ops.imm)
 }
