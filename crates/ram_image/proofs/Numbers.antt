@@ -1,10 +1,11 @@
 -- Bytes, and the numbers that they spell.
-use Rattle.std.proofs.Common.{◌≡◌, ℕ, zero, suc, ◌+◌, ◌-◌, ◌*◌, ◌<◌, ◌≤◌, List, ◌∷◌, [], ◌++◌, length, take, drop, get_or, true, false, Some, None, refl, sym, ◌∙◌, ap, arith, inl, inr, replicate, min}
+use Rattle.std.proofs.Common.{◌≡◌, ℕ, zero, suc, ◌+◌, ◌-◌, ◌*◌, ◌<◌, ◌≤◌, List, ◌∷◌, [], ◌++◌, length, take, drop, get_or, true, false, Some, None, ◌^◌, lit<, refl, sym, ◌∙◌, ap, arith, inl, inr, replicate, min}
 use Rattle.std.specs.Int.{w64, from_le_bytes}
 use Rattle.std.proofs.lemmas.Bool.{cases_lt}
 use Rattle.std.proofs.lemmas.List.{places, same_lists, get_or-replicate, get_or-take, get_or-drop, get_or_past, length-take, length-drop, length-replicate}
 use borrow.Rule.Slice.PartMut.{put_mid}
 use Rattle.rv_fields.specs.Memory.{in_ram, number_of, told, told_bytes, whole}
+use Rattle.rv_fields.proofs.Ranges.{joined, one_more}
 use Rattle.ram_image.specs.Ram.{bytes_from}
 
 -- a whole memory tells each byte
@@ -82,3 +83,10 @@ part_of bytes from to k ordered within =
           let short : length part ≤ k = omega (arith, length-take (min to (length bytes) - min from (length bytes)) (drop (min from (length bytes)) bytes), length-drop (min from (length bytes)) bytes) in
           get_or_past part k 0 short ∙ sym (get_or_past bytes (from + k) 0 past)
     ]
+
+-- a number is as small as its bytes are few
+pub number_small : (bytes : List ℕ) → ((k : ℕ) → k < length bytes → get_or bytes k 0 < 2 ^ 8) → number_of bytes < 2 ^ (8 * length bytes)
+number_small [] small = lit< tt
+number_small (b ∷ bs) small =
+    joined b (number_of bs) (2 ^ (8 * length bs)) (2 ^ (8 * suc (length bs))) (small 0 (omega arith))
+    (number_small bs (λ k below. small (suc k) (omega arith))) (one_more (length bs))

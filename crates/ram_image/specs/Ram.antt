@@ -1,5 +1,5 @@
 -- RAM as it is kept: pages where something was written, and zeros elsewhere.
-use Rattle.std.specs.Prelude.{ℕ, zero, suc, [], ◌∷◌, ◌+◌, ◌-◌, ◌/◌, ◌%◌, ◌^◌, ◌≡◌, ◌⊎◌, List, slice_index, slice_index_or, Option, Some, None, Bool, is_some, nat_le, nat_lt, ◌&&◌, if◌then◌else◌}
+use Rattle.std.specs.Prelude.{ℕ, zero, suc, [], ◌∷◌, ◌+◌, ◌-◌, ◌/◌, ◌%◌, List, slice_index, slice_index_or, Option, Some, None, Bool, is_some, nat_le, if◌then◌else◌}
 use Rattle.std.specs.declared.alloc.Global.{Global}
 use Rattle.std.specs.declared.boxed.Box.{Box}
 use Rattle.rv_fields.specs.Memory.{ram_start}
@@ -25,14 +25,6 @@ memory ram a = page_byte (page_at ram.pages.items a) ((a - ram_start) % 4096)
 -- there is room for a store at the address
 unfoldable pub is_reserved : Ram → ℕ → Bool
 is_reserved ram a = is_some (page_at ram.pages.items a)
-
--- the numbers of bytes that an instruction loads or stores
-abbrev pub IsSize : ℕ → Type 0
-IsSize size = (size ≡ 1) ⊎ (size ≡ 2) ⊎ (size ≡ 4) ⊎ (size ≡ 8)
-
--- memory in which the number stands at the address, in so many bytes, the lowest first; elsewhere it is as before
-abbrev pub stored : (ℕ → ℕ) → ℕ → ℕ → ℕ → ℕ → ℕ
-stored before at size value a = if nat_le at a && nat_lt a (at + size) then value / 256 ^ (a - at) % 256 else before a
 
 -- so many bytes of a memory, from the address on
 abbrev pub bytes_from : (ℕ → ℕ) → ℕ → ℕ → List ℕ

@@ -4,7 +4,7 @@
 mod ram;
 mod segment;
 
-pub use ram::Ram;
+pub use ram::{Ram, Spare};
 pub use segment::Segment;
 
 #[cfg(test)]

@@ -1,6 +1,6 @@
-ghost use Rattle.std.specs.Prelude.{◌≡◌, ◌+◌, ◌-◌, ◌*◌, ◌/◌, ◌%◌, ◌≤◌, ◌<◌, ◌↔◌, ◌&&◌, ℕ, length, slice_index, slice_index_or, nat_le, nat_lt, IsTrue, IsSome, Some, OnOk, IfOk, unwrap_or, if◌then◌else◌};
+ghost use Rattle.std.specs.Prelude.{◌≡◌, ◌+◌, ◌-◌, ◌*◌, ◌/◌, ◌%◌, ◌≤◌, ◌<◌, ◌↔◌, ◌&&◌, ℕ, length, slice_index, slice_index_or, nat_le, nat_lt, ◌^◌, false, replicate, IsTrue, IsSome, IfSome, Some, OnOk, IfOk, unwrap_or, if◌then◌else◌};
 ghost use Rattle.ram_image.specs.Segments.{memory_of, stretches, stretch_of, stretch_byte};
-ghost use Rattle.rv_fields.specs.Memory.{in_ram, number_of, told, whole, ram_start, ram_end};
+ghost use Rattle.rv_fields.specs.Memory.{in_ram, number_of, told, whole, stored, IsSize, ram_start, ram_end};
 
 use crate::segment::Segment;
 use rv_fields::NoMemory;
@@ -19,6 +19,20 @@ const PAGE: u64 = 4096;
 
 const PAGE_COUNT: usize = 0x1_0000;
 
+/// A page of zeros: room for stores to one page of RAM, which needs no memory any more.
+#[derive(Drop)]
+pub struct Spare {
+    zeros: Box<[u8; PAGE_SIZE]>,
+    ghost zeros_are: { zeros.value ≡ replicate 4096 0 },
+}
+
+impl Spare {
+    pub fn new(alloc: Global) -> Result<Spare, NoMemory> {
+        let zeros = Box::new(alloc, [0; PAGE_SIZE])?;
+        Ok(Spare { zeros })
+    }
+}
+
 /// The bytes of RAM. A page is kept where something was written; all else is 0.
 #[derive(Drop)]
 pub struct Ram {
@@ -27,7 +41,7 @@ pub struct Ram {
 }
 
 impl Ram {
-    ghost use Rattle.ram_image.specs.Ram.{memory, is_reserved, IsSize, stored, bytes_from};
+    ghost use Rattle.ram_image.specs.Ram.{memory, is_reserved, bytes_from};
 
     /// The number of `size` bytes at the address, the lowest first; none where a byte lies outside RAM.
     pub fn load(&self, at: u64, size: u8) -> Option<u64>
@@ -35,6 +49,7 @@ impl Ram {
         requires most { size ≤ 8 }
         ensures value { told (whole (memory self.now)) at size ≡ Some result }
         ensures inside { IsSome result ↔ IsTrue (in_ram at size) }
+        ensures small { IfSome result (λ number. number < 2 ^ (8 * size)) }
     {
         if !is_inside(at, size) {
             return None;
@@ -55,7 +70,8 @@ impl Ram {
     fn number_by_bytes(&self, at: u64, size: u8) -> u64
         requires most { size ≤ 8 }
         requires inside { IsTrue (in_ram at size) }
-        ensures { result ≡ number_of (bytes_from (memory self.now) at size) }
+        ensures number { result ≡ number_of (bytes_from (memory self.now) at size) }
+        ensures small { result < 2 ^ (8 * size) }
     {
         let mut bytes = [0; 8];
         for index in 0..size {
@@ -130,8 +146,15 @@ impl Ram {
         Ok(())
     }
 
-    /// Whether the page of the address is kept.
-    fn is_reserved(&self, at: u64) -> bool
+    /// Whether so many bytes from the address on lie in RAM.
+    pub fn holds(&self, at: u64, size: u8) -> bool
+        ensures { result ≡ in_ram at size }
+    {
+        is_inside(at, size)
+    }
+
+    /// Whether there is room for stores to the page of the address.
+    pub fn is_reserved(&self, at: u64) -> bool
         requires { IsTrue (in_ram at 1) }
         ensures { result ≡ is_reserved self.now at }
     {
@@ -148,12 +171,23 @@ impl Ram {
         if !is_inside(at, 1) {
             return Ok(());
         }
-        let page = (at - RAM_START) as usize / PAGE_SIZE;
-        if self.pages[page].is_none() {
-            let zeros = Box::new(alloc, [0; PAGE_SIZE])?;
-            self.pages[page] = Some(zeros);
+        if !self.is_reserved(at) {
+            let spare = Spare::new(alloc)?;
+            self.reserve_with(at, spare);
         }
         Ok(())
+    }
+
+    /// Makes room for stores to the page of the address by a spare page.
+    pub fn reserve_with(&mut self, at: u64, spare: Spare)
+        requires inside { IsTrue (in_ram at 1) }
+        requires unreserved { is_reserved self.old at ≡ false }
+        ensures reserved { (a : ℕ) → a / 4096 ≡ at / 4096 → IsTrue (is_reserved self.new a) }
+        ensures stays { (a : ℕ) → IsTrue (is_reserved self.old a) → IsTrue (is_reserved self.new a) }
+        ensures same { (a : ℕ) → memory self.new a ≡ memory self.old a }
+    {
+        let Spare { zeros } = spare;
+        self.pages[(at - RAM_START) as usize / PAGE_SIZE] = Some(zeros);
     }
 
     /// Stores the lowest `size` bytes of the value at the address, the lowest first.
@@ -162,7 +196,7 @@ impl Ram {
         requires aligned { at % size ≡ 0 }
         requires inside { IsTrue (in_ram at size) }
         requires reserved { IsTrue (is_reserved self.old at) }
-        ensures stored { (a : ℕ) → memory self.new a ≡ stored (memory self.old) at size value a }
+        ensures stored { (a : ℕ) → whole (memory self.new) a ≡ stored (whole (memory self.old)) at size value a }
         ensures stays { (a : ℕ) → IsTrue (is_reserved self.old a) → IsTrue (is_reserved self.new a) }
     {
         let bytes = value.to_le_bytes();
@@ -220,7 +254,8 @@ fn part(bytes: &[u8], from: u64, to: u64) -> &[u8]
 /// The number that at most eight bytes spell, the lowest first.
 fn number_of(bytes: &[u8]) -> u64
     requires { length bytes.now ≤ 8 }
-    ensures { result ≡ number_of bytes.now }
+    ensures number { result ≡ number_of bytes.now }
+    ensures small { result < 2 ^ (8 * length bytes.now) }
 {
     let mut padded = [0; 8];
     padded[..bytes.len()].copy_from_slice(bytes);

@@ -2,7 +2,7 @@
 use Rattle.std.proofs.Common.{◌≡◌, ℕ, zero, suc, Option, Some, None, ◌∷◌, slice_get, replicate, option_and_then, refl, arith}
 use Rattle.std.proofs.Math.Path.{fun_ext}
 use Rattle.std.proofs.lemmas.Bool.Decides.{nat_tests}
-use Rattle.rv_fields.specs.Step.{updated}
+use Rattle.rv_fields.specs.Hart.{updated}
 use Rattle.value_file.specs.declared.register.Register.{Register}
 use Rattle.value_file.specs.declared.register.Register.TheVariants.{Untouched, Written}
 use Rattle.value_file.specs.Register.{initial_value, present_value}

@@ -1,5 +1,5 @@
 ghost use Rattle.std.specs.Prelude.{◌≡◌, ℕ, ◌<◌, ◌↔◌, IsTrue, IsSome, Some, None, slice_get, unwrap_or};
-ghost use Rattle.rv_fields.specs.Step.{updated};
+ghost use Rattle.rv_fields.specs.Hart.{updated};
 ghost use Rattle.value_file.specs.declared.register.Register.TheVariants.{Written};
 
 use crate::register::Register;

@@ -8,7 +8,7 @@ use Rattle.ram_image.proofs.ram.Ram.load.Goals as goal
 pub returns-then-past-gt-PAGE_SIZE-clause-value : goal.returns-then-past-gt-PAGE_SIZE-clause-value
 returns-then-past-gt-PAGE_SIZE-clause-value c =
     told_inside (memory c.args.self.now) c.args.at c.args.size c.number_by_bytes.result (sym c.is_inside.ensures ∙ c.if-not-is_inside.false)
-    c.number_by_bytes.ensures
+    c.number_by_bytes.ensures.number
 
 pub returns-in-Some-clause-value : goal.returns-in-Some-clause-value
 unfolding memory byte_of
@@ -27,7 +27,7 @@ returns-in-Some-clause-value c =
     let long : length bytes ≡ 4096 = ap length (sym c.deref.ensures) ∙ told in
     let past = first + c.from.result in
     let spelled : c.number_of.result ≡ number_of (take (past - first) (drop first bytes)) =
-    c.number_of.ensures ∙ ap (λ xs. number_of (take (past - first) (drop first xs))) c.deref.ensures in
+    c.number_of.ensures.number ∙ ap (λ xs. number_of (take (past - first) (drop first xs))) c.deref.ensures in
     told_inside (memory c.args.self.now) at size c.number_of.result inside
     (spelled ∙ ap number_of (sym (part_of_page (memory c.args.self.now) at size first past bytes (omega arith) (omega arith) (λ k below.
     byte_behind pages at k (Some c.in-Some.bytes) parts.0 (omega arith) page))))

@@ -22,13 +22,13 @@ loop-index-preserved c =
       ];
     }
 
-pub returns : goal.returns
-returns c =
+pub returns-clause-number : goal.returns-clause-number
+returns-clause-number c =
     let bytes = c.loop-index.bytes in
     let size = c.from-2.result in
     let long : length bytes ≡ 8 = c.loop-index.invariant.long in
     let enough : size ≤ length bytes = omega arith in
     let whole : length (take size bytes) ≡ c.args.size = length-take-le size bytes enough ∙ c.from-2.ensures in
-    c.number_of.ensures
+    c.number_of.ensures.number
     ∙ ap number_of (sym (bytes_are (memory c.args.self.now) c.args.at c.args.size (take size bytes) whole (λ k below.
     get_or-take size bytes k 0 (omega arith) ∙ c.loop-index.invariant.read k (omega arith))))
