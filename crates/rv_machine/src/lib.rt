@@ -1,0 +1,12 @@
+//! Harts that step over one memory.
+#![tactic(auto)]
+
+mod links;
+mod machine;
+mod memory;
+mod reset;
+
+pub use machine::Machine;
+pub use ram_image::Ram;
+pub use reset::Reset;
+pub use rv_step::Stepped;
