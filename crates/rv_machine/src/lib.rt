@@ -10,3 +10,8 @@ pub use machine::Machine;
 pub use ram_image::Ram;
 pub use reset::Reset;
 pub use rv_step::Stepped;
+
+#[cfg(test)]
+mod tests;
+#[cfg(test)]
+mod vectors;

@@ -1,0 +1,4 @@
+mod cases;
+mod fixture;
+mod steps;
+mod two_harts;
