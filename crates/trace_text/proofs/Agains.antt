@@ -1,6 +1,6 @@
 -- The text of a thing that is in its ranges tells this thing again.
-use Rattle.std.proofs.Common.{◌≡◌, ℕ, ◌*◌, ◌<◌, ◌≤◌, ◌^◌, ◌==◌, List, [], ◌∷◌, ◌++◌, length, map, true, false, not, cond, refl, sym, ap, ◌∙◌, arith, append_assoc, append-nil, map-id, lt_trans, Option, Some, None, IfSome, option_map}
-use Rattle.std.specs.Prelude.{nat_lt, nat_le}
+use Rattle.std.proofs.Common.{◌≡◌, ◌≢◌, ℕ, ◌*◌, ◌<◌, ◌≤◌, ◌^◌, ◌==◌, List, [], ◌∷◌, ◌++◌, length, map, true, false, not, cond, refl, sym, ap, ◌∙◌, arith, append_assoc, append-nil, map-id, lt_trans, Option, Some, None, IfSome, option_map}
+use Rattle.std.specs.Prelude.{nat_lt, nat_le, MatchOption}
 use Rattle.std.specs.Option.{option_map_or}
 use Rattle.std.specs.List.{AllByRecursion, flat_map}
 use Rattle.std.specs.Str.{bytes_eq}
@@ -11,20 +11,27 @@ use Rattle.std.proofs.lemmas.List.{length-map}
 use Rattle.std.proofs.lemmas.Slice.Eq.{bytes_eq-Decides}
 use Rattle.rv_fields.specs.Attempt.{◌>>=◌}
 use Rattle.rv_fields.specs.Name.{is_name}
-use Rattle.rv_fields.specs.Effect.{Access, Entry, TrapTaken}
+use Rattle.rv_fields.specs.declared.access.AccessKind.{AccessKind}
+use Rattle.rv_fields.specs.declared.access.AccessKind.TheVariants.{Load, Store, Lr, Sc, Amo}
+use Rattle.rv_fields.specs.declared.mode.Mode.{Mode}
+use Rattle.rv_fields.specs.declared.mode.Mode.TheVariants.{U, S, M}
+use Rattle.rv_fields.specs.declared.access.Accessed.{Accessed}
+use Rattle.rv_fields.specs.declared.trap.Trap.{Trap}
+use Rattle.rv_fields.specs.Effect.{Entry}
 use Rattle.trace_text.specs.declared.line.Kind.{Kind}
 use Rattle.trace_text.specs.declared.line.Kind.TheVariants.{Ins, Mem, Jump, Csr, Sys, Value, Loop, Pick, Set}
 use Rattle.trace_text.specs.declared.line.Cause.{Cause}
 use Rattle.trace_text.specs.declared.line.Cause.TheVariants.{EmptyChoice, BudgetSpent, NoRegister, NoAddress, NoTarget, WindowFull, NoFreePage, NoPlace}
+use Rattle.trace_text.specs.Letters.{access_letters, mode_letters, letter_of_kind, letter_of_mode, kind_of_letter, mode_of_letter}
 use Rattle.trace_text.specs.Lines.{Name}
 use Rattle.trace_text.specs.Text.{colon, comma, slash, joined_by, hex, word_text, byte_text, none_text, or_none, kind_text, cause_text, write_text, access_text, entry_text, trail_text, trap_text, letter_text}
 use Rattle.trace_text.specs.Numbers.{decimal_below, word_of, byte_of}
 use Rattle.trace_text.specs.Orders.{is_decimal}
-use Rattle.trace_text.specs.Readings.{kind_of, cause_of, access_letters, mode_letters, sizes, preambles, is_any_of, letter_of, name_of, count_of, number_of, hex_of, register_of, space_of, parts_of, all_of, at_most, path_of, pairs_of, bytes_of, optional, sized, write_in, access_in, entry_in, trap_in, write_of, access_of, entry_of, trap_of, trail_of}
+use Rattle.trace_text.specs.Readings.{kind_of, cause_of, sizes, preambles, is_any_of, letter_of, name_of, count_of, number_of, hex_of, register_of, space_of, parts_of, all_of, at_most, path_of, pairs_of, bytes_of, optional, sized, write_in, access_in, entry_in, trap_in, write_of, access_of, entry_of, trap_of, trail_of}
 use Rattle.trace_text.specs.Traces.{IsAnyOf, IsName, IsWrite, IsAccess, IsEntry, IsTrap, IsPath, AreBytes}
 use Rattle.trace_text.proofs.Spelled as spelled
 use Rattle.trace_text.proofs.Joins.{all_weaken, all_map, joined_all, Lacks, parts_again}
-use Rattle.trace_text.proofs.WordBytes.{IsWord, decimal_word, hex_word, name_word, access_letter_word, mode_letter_word, access_letter_is, mode_letter_is, any_holds, word_lacks, word_is_something}
+use Rattle.trace_text.proofs.WordBytes.{IsWord, decimal_word, hex_word, name_word, access_letter_word, mode_letter_word, access_letter_is, mode_letter_is, kind_letter, mode_letter, any_holds, word_lacks, word_is_something}
 use Rattle.trace_text.proofs.Backs.{value_told, texts_joined, trap_parts, access_parts}
 
 -- Numbers.
@@ -80,11 +87,29 @@ size_again n is = number_again sizes n (size_small n is) is
 letter_again : (letters : List ℕ) (l : ℕ) → letter_text l ≡ l ∷ [] → IsAnyOf letters l → letter_of letters (letter_text l) ≡ Some l
 letter_again letters l same is = ap (letter_of letters) same ∙ cond-true (is_any_of letters l) (Some l) None is
 
-pub access_letter_again : (l : ℕ) → IsAnyOf access_letters l → letter_of access_letters (letter_text l) ≡ Some l
-access_letter_again l is = letter_again access_letters l (access_letter_is l is) is
+pub access_letter_again : (k : AccessKind) → letter_of access_letters (letter_text (letter_of_kind k)) ≡ Some (letter_of_kind k)
+access_letter_again k =
+    let is = kind_letter k in
+    letter_again access_letters (letter_of_kind k) (access_letter_is (letter_of_kind k) is) is
 
-pub mode_letter_again : (l : ℕ) → IsAnyOf mode_letters l → letter_of mode_letters (letter_text l) ≡ Some l
-mode_letter_again l is = letter_again mode_letters l (mode_letter_is l is) is
+pub mode_letter_again : (m : Mode) → m ≢ U → letter_of mode_letters (letter_text (letter_of_mode m)) ≡ Some (letter_of_mode m)
+mode_letter_again m other =
+    let is = mode_letter m other in
+    letter_again mode_letters (letter_of_mode m) (mode_letter_is (letter_of_mode m) is) is
+
+-- a kind's letter stands for this kind, and the letter of a mode that handles traps for this mode
+
+kind_again_of_letter : (k : AccessKind) → kind_of_letter (letter_of_kind k) ≡ k
+kind_again_of_letter Load = refl
+kind_again_of_letter Store = refl
+kind_again_of_letter Lr = refl
+kind_again_of_letter Sc = refl
+kind_again_of_letter Amo = refl
+
+mode_again_of_letter : (m : Mode) → m ≢ U → mode_of_letter (letter_of_mode m) ≡ m
+mode_again_of_letter U other = absurd (other refl)
+mode_again_of_letter S other = refl
+mode_again_of_letter M other = refl
 
 pub name_again : (name : Name) → IsName name → name_of name ≡ Some name
 name_again name is = cond-true (is_name name) (Some name) None is
@@ -131,6 +156,11 @@ module _ {A : Type 0} (text : A → List ℕ) (reading : List ℕ → Option A) 
       let test : bytes_eq (text a) none_text ≡ false =
       false_from_ne_true (bytes_eq (text a) none_text) (λ same. something a fits ((bytes_eq-Decides (text a) none_text).0 same)) in
       cond-false (bytes_eq (text a) none_text) (Some None) (option_map Some (reading (text a))) test ∙ ap (option_map Some) (again a fits)
+
+  -- a thing that has to be there
+  pub there_again : (o : Option A) → MatchOption o ⊥ Fits → option_map Some (reading (or_none text o)) ≡ Some o
+  there_again None there = absurd there
+  there_again (Some a) there = ap (option_map Some) (again a there)
 
 -- Paths and bytes.
 
@@ -186,22 +216,23 @@ entry_again e is =
     ap entry_in (parts_again colon (hex e.at ∷ hex e.pte ∷ []) (omega arith) (colon_free (hex e.at) one, (colon_free (hex e.pte) two, tt)))
     ∙ (λ i. hex_again e.at is.at i >>= (λ a. hex_again e.pte is.pte i >>= (λ p. Some (record { at = a; pte = p }))))
 
-trap_free : (t : TrapTaken) → IsTrap t → AllByRecursion (Lacks colon) (trap_parts t)
+trap_free : (t : Trap) → IsTrap t → AllByRecursion (Lacks colon) (trap_parts t)
 trap_free t is = (
   colon_free (decimal t.cause) (decimal_word t.cause (omega (arith, is.cause))),
   (
     colon_free (hex t.epc) (hex_word t.epc is.epc),
-    (colon_free (hex t.tval) (hex_word t.tval is.tval), (colon_free (letter_text t.mode) (mode_letter_word t.mode is.mode), tt)),
+    (colon_free (hex t.tval) (hex_word t.tval is.tval), (colon_free (letter_text (letter_of_mode t.to)) (mode_letter_word t.to is.to), tt)),
   ),
 )
 
-pub trap_again : (t : TrapTaken) → IsTrap t → trap_of (trap_text t) ≡ Some t
+pub trap_again : (t : Trap) → IsTrap t → trap_of (trap_text t) ≡ Some t
 trap_again t is =
     ap trap_in (parts_again colon (trap_parts t) (omega arith) (trap_free t is))
     ∙ (λ i. space_again t.cause is.cause i >>= (λ c. hex_again t.epc is.epc i >>= (λ e. hex_again t.tval is.tval i >>= (λ v.
-    mode_letter_again t.mode is.mode i >>= (λ m. Some (record { cause = c; epc = e; tval = v; mode = m }))))))
+    mode_letter_again t.to is.to i >>= (λ m. Some (record { cause = c; epc = e; tval = v; to = mode_of_letter m }))))))
+    ∙ ap (λ m. Some (record t { to = m })) (mode_again_of_letter t.to is.to)
 
-pub trap_is_something : (t : TrapTaken) → IsTrap t → trap_text t ≡ none_text → ⊥
+pub trap_is_something : (t : Trap) → IsTrap t → trap_text t ≡ none_text → ⊥
 trap_is_something t is none = word_is_something (decimal t.cause) _ (decimal_word t.cause (omega (arith, is.cause))) none
 
 -- the number of a size that an access may read or write
@@ -220,34 +251,35 @@ optional_sized_again : (size : ℕ) → IsAnyOf sizes size → (o : Option ℕ) 
 optional_sized_again size is o fits =
     optional_again hex (sized size) (λ n. n < 2 ^ (8 * size)) (sized_again size is) (sized_something size is) o fits
 
-access_free : (a : Access) → IsAccess a → AllByRecursion (Lacks colon) (access_parts a)
+access_free : (a : Accessed) → IsAccess a → AllByRecursion (Lacks colon) (access_parts a)
 access_free a is =
     let size = decimal_word a.size (lt_trans (size_small a.size is.size) (omega arith)) in (
-      colon_free (letter_text a.kind) (access_letter_word a.kind is.kind),
+      colon_free (letter_text (letter_of_kind a.kind)) (access_letter_word a.kind),
       (
-        colon_free (hex a.virtual) (hex_word a.virtual is.virtual),
+        colon_free (hex a.va) (hex_word a.va is.va),
         (
-          colon_free (hex a.physical) (hex_word a.physical is.physical),
+          colon_free (hex a.pa) (hex_word a.pa is.pa),
           (colon_free (decimal a.size) size, (sized_free a.size is.size a.read is.read, (sized_free a.size is.size a.wrote is.wrote, tt))),
         ),
       ),
     )
 
-access_in_again : (a : Access) → IsAccess a → access_in (access_parts a) ≡ Some a
+access_in_again : (a : Accessed) → IsAccess a → access_in (access_parts a) ≡ Some a
 access_in_again a is =
     let read = or_none hex a.read in
     let wrote = or_none hex a.wrote in
-    (λ i. access_letter_again a.kind is.kind i >>= (λ k. hex_again a.virtual is.virtual i >>= (λ v.
-    hex_again a.physical is.physical i >>= (λ p. size_again a.size is.size i >>= (λ s.
-    optional (sized s) read >>= (λ r. optional (sized s) wrote >>= (λ w. Some (record { kind = k; virtual = v; physical = p; size = s; read = r; wrote = w }))))))))
+    (λ i. access_letter_again a.kind i >>= (λ k. hex_again a.va is.va i >>= (λ v.
+    hex_again a.pa is.pa i >>= (λ p. size_again a.size is.size i >>= (λ s.
+    optional (sized s) read >>= (λ r. optional (sized s) wrote >>= (λ w. Some (record { kind = kind_of_letter k; va = v; pa = p; size = s; read = r; wrote = w }))))))))
     ∙ (λ i. optional_sized_again a.size is.size a.read is.read i >>= (λ r. optional_sized_again a.size is.size a.wrote is.wrote i >>= (λ w.
-    Some (record a { read = r; wrote = w }))))
+    Some (record a { kind = kind_of_letter (letter_of_kind a.kind); read = r; wrote = w }))))
+    ∙ ap (λ k. Some (record a { kind = k })) (kind_again_of_letter a.kind)
 
-pub access_again : (a : Access) → IsAccess a → access_of (access_text a) ≡ Some a
+pub access_again : (a : Accessed) → IsAccess a → access_of (access_text a) ≡ Some a
 access_again a is = ap access_in (parts_again colon (access_parts a) (omega arith) (access_free a is)) ∙ access_in_again a is
 
-pub access_is_something : (a : Access) → IsAccess a → access_text a ≡ none_text → ⊥
-access_is_something a is none = word_is_something (letter_text a.kind) _ (access_letter_word a.kind is.kind) none
+pub access_is_something : (a : Accessed) → IsAccess a → access_text a ≡ none_text → ⊥
+access_is_something a is none = word_is_something (letter_text (letter_of_kind a.kind)) _ (access_letter_word a.kind) none
 
 -- Trails.
 

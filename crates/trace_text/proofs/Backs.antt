@@ -1,5 +1,5 @@
 -- What a field tells is in its ranges, and the field is its text.
-use Rattle.std.proofs.Common.{◌≡◌, ℕ, ◌*◌, ◌<◌, ◌≤◌, ◌^◌, ◌==◌, List, [], ◌∷◌, ◌++◌, length, map, Bool, true, false, not, cond, refl, sym, ap, ◌∙◌, subst, arith, map-id, inl, inr, Option, Some, None, IfSome, option_map}
+use Rattle.std.proofs.Common.{◌≡◌, ◌≢◌, ℕ, ◌*◌, ◌<◌, ◌≤◌, ◌^◌, ◌==◌, List, [], ◌∷◌, ◌++◌, length, map, Bool, true, false, not, cond, refl, sym, ap, ◌∙◌, subst, arith, map-id, inl, inr, Option, Some, None, IfSome, option_map}
 use Rattle.std.specs.Prelude.{nat_lt, nat_le}
 use Rattle.std.specs.Option.{option_map_or}
 use Rattle.std.specs.List.{AllByRecursion, find, flat_map, join_with_byte}
@@ -12,17 +12,21 @@ use Rattle.std.proofs.lemmas.List.Splits.{length-slice_split, join_with_byte-sli
 use Rattle.std.proofs.lemmas.Slice.Eq.{bytes_eq-Decides}
 use Rattle.rv_fields.specs.Attempt.{◌>>=◌}
 use Rattle.rv_fields.specs.Name.{is_name}
-use Rattle.rv_fields.specs.Effect.{Access, Entry, TrapTaken}
+use Rattle.rv_fields.specs.declared.access.Accessed.{Accessed}
+use Rattle.rv_fields.specs.declared.trap.Trap.{Trap}
+use Rattle.rv_fields.specs.Effect.{Entry}
+use Rattle.rv_fields.specs.declared.mode.Mode.TheVariants.{U}
 use Rattle.std.proofs.lemmas.Option.{none-some, same_Some}
 use Rattle.trace_text.specs.declared.line.Kind.{Kind}
 use Rattle.trace_text.specs.declared.line.Cause.{Cause}
+use Rattle.trace_text.specs.Letters.{access_letters, mode_letters, letter_of_kind, letter_of_mode, kind_of_letter, mode_of_letter}
 use Rattle.trace_text.specs.Lines.{Name}
 use Rattle.trace_text.specs.Text.{colon, comma, slash, joined_by, hex, word_text, byte_text, none_text, or_none, kind_text, cause_text, write_text, access_text, entry_text, trail_text, trap_text, letter_text}
 use Rattle.trace_text.specs.Numbers.{spelled_by, decimal_below, word_of, byte_of}
-use Rattle.trace_text.specs.Readings.{told_by, kinds, causes, kind_of, cause_of, access_letters, mode_letters, sizes, is_any_of, letter_of, name_of, count_of, number_of, hex_of, register_of, space_of, parts_of, all_of, at_most, path_of, pairs_of, bytes_of, optional, sized, write_in, access_in, entry_in, trap_in, write_of, access_of, entry_of, trap_of, trail_of}
+use Rattle.trace_text.specs.Readings.{told_by, kinds, causes, kind_of, cause_of, sizes, is_any_of, letter_of, name_of, count_of, number_of, hex_of, register_of, space_of, parts_of, all_of, at_most, path_of, pairs_of, bytes_of, optional, sized, write_in, access_in, entry_in, trap_in, write_of, access_of, entry_of, trap_of, trail_of}
 use Rattle.trace_text.specs.Traces.{IsAnyOf, IsName, IsWrite, IsAccess, IsEntry, IsTrap, IsPath, AreBytes}
 use Rattle.trace_text.proofs.Spelled as spelled
-use Rattle.trace_text.proofs.WordBytes.{access_letter_is, mode_letter_is}
+use Rattle.trace_text.proofs.WordBytes.{access_letter_is, mode_letter_is, any_holds}
 
 -- what the first of two steps tells, and the second of it
 record Found {A B : Type 0} (first : Option A) (next : A → Option B) (b : B) : Type 0 where
@@ -96,11 +100,28 @@ letter_back letters (c ∷ []) l told =
     (subst (IsAnyOf letters) same parts.0, ap (λ b. b ∷ []) (sym same))
 letter_back letters (c ∷ d ∷ rest) l told = absurd (none-some l told)
 
-pub access_letter_back : (field : List ℕ) (l : ℕ) → letter_of access_letters field ≡ Some l → IsAnyOf access_letters l × (letter_text l ≡ field)
-access_letter_back field l told = let back = letter_back access_letters field l told in (back.0, access_letter_is l back.0 ∙ back.1)
+-- a letter of a kind is that of the kind that it stands for
+pub kind_keeps_letter : (field : List ℕ) (l : ℕ) → letter_of access_letters field ≡ Some l → letter_of_kind (kind_of_letter l) ≡ l
+kind_keeps_letter field l told =
+    any_holds (λ l. letter_of_kind (kind_of_letter l) ≡ l) access_letters l (refl, (refl, (refl, (refl, (refl, tt)))))
+    (letter_back access_letters field l told).0
 
-pub mode_letter_back : (field : List ℕ) (l : ℕ) → letter_of mode_letters field ≡ Some l → IsAnyOf mode_letters l × (letter_text l ≡ field)
-mode_letter_back field l told = let back = letter_back mode_letters field l told in (back.0, mode_letter_is l back.0 ∙ back.1)
+pub access_letter_back : (field : List ℕ) (l : ℕ) → letter_of access_letters field ≡ Some l → letter_text (letter_of_kind (kind_of_letter l)) ≡ field
+access_letter_back field l told =
+    let back = letter_back access_letters field l told in
+    ap letter_text (kind_keeps_letter field l told) ∙ access_letter_is l back.0 ∙ back.1
+
+pub mode_keeps_letter : (field : List ℕ) (l : ℕ) → letter_of mode_letters field ≡ Some l → letter_of_mode (mode_of_letter l) ≡ l
+mode_keeps_letter field l told =
+    any_holds (λ l. letter_of_mode (mode_of_letter l) ≡ l) mode_letters l (refl, (refl, tt)) (letter_back mode_letters field l told).0
+
+pub mode_letter_back : (field : List ℕ) (l : ℕ) → letter_of mode_letters field ≡ Some l
+    → (mode_of_letter l ≢ U) × (letter_text (letter_of_mode (mode_of_letter l)) ≡ field)
+mode_letter_back field l told =
+    let back = letter_back mode_letters field l told in (
+      any_holds (λ l. mode_of_letter l ≢ U) mode_letters l ((λ u. cc), ((λ u. cc), tt)) back.0,
+      ap letter_text (mode_keeps_letter field l told) ∙ mode_letter_is l back.0 ∙ back.1,
+    )
 
 pub name_back : (field name : List ℕ) → name_of field ≡ Some name → IsName name × (name ≡ field)
 name_back field name told =
@@ -239,10 +260,10 @@ entry_back field e told =
     (parts.0, joined colon (hex e.at ∷ hex e.pte ∷ []) field parts.1)
 
 -- the parts of a trap
-abbrev pub trap_parts : TrapTaken → List (List ℕ)
-trap_parts t = decimal t.cause ∷ hex t.epc ∷ hex t.tval ∷ letter_text t.mode ∷ []
+abbrev pub trap_parts : Trap → List (List ℕ)
+trap_parts t = decimal t.cause ∷ hex t.epc ∷ hex t.tval ∷ letter_text (letter_of_mode t.to) ∷ []
 
-trap_in_back : (parts : List (List ℕ)) (t : TrapTaken) → trap_in parts ≡ Some t → IsTrap t × (trap_parts t ≡ parts)
+trap_in_back : (parts : List (List ℕ)) (t : Trap) → trap_in parts ≡ Some t → IsTrap t × (trap_parts t ≡ parts)
 trap_in_back [] t told = absurd (none-some t told)
 trap_in_back (cause ∷ []) t told = absurd (none-some t told)
 trap_in_back (cause ∷ epc ∷ []) t told = absurd (none-some t told)
@@ -252,48 +273,48 @@ trap_in_back (cause ∷ epc ∷ tval ∷ mode ∷ []) t told =
     let e = found (hex_of epc) _ t c.gives in
     let v = found (hex_of tval) _ t e.gives in
     let m = found (letter_of mode_letters mode) _ t v.gives in
-    let trap : TrapTaken = record { cause = c.value; epc = e.value; tval = v.value; mode = m.value } in
+    let trap : Trap = record { cause = c.value; epc = e.value; tval = v.value; to = mode_of_letter m.value } in
     let one = space_back cause c.value c.is in
     let two = hex_back epc e.value e.is in
     let three = hex_back tval v.value v.is in
     let four = mode_letter_back mode m.value m.is in
-    subst (λ (t : TrapTaken). IsTrap t × (trap_parts t ≡ cause ∷ epc ∷ tval ∷ mode ∷ []))
+    subst (λ (t : Trap). IsTrap t × (trap_parts t ≡ cause ∷ epc ∷ tval ∷ mode ∷ []))
     {x = trap} (same_Some trap t m.gives)
-    (record { cause = one.0; epc = two.0; tval = three.0; mode = four.0 }, λ i. one.1 i ∷ two.1 i ∷ three.1 i ∷ four.1 i ∷ [])
+    (record { cause = one.0; epc = two.0; tval = three.0; to = four.0 }, λ i. one.1 i ∷ two.1 i ∷ three.1 i ∷ four.1 i ∷ [])
 trap_in_back (cause ∷ epc ∷ tval ∷ mode ∷ more ∷ rest) t told = absurd (none-some t told)
 
-pub trap_back : (field : List ℕ) (t : TrapTaken) → trap_of field ≡ Some t → IsTrap t × (trap_text t ≡ field)
+pub trap_back : (field : List ℕ) (t : Trap) → trap_of field ≡ Some t → IsTrap t × (trap_text t ≡ field)
 trap_back field t told =
     let parts = trap_in_back (parts_of colon field) t told in
     (parts.0, joined colon (trap_parts t) field parts.1)
 
 -- the parts of an access
-abbrev pub access_parts : Access → List (List ℕ)
-access_parts a = letter_text a.kind ∷ hex a.virtual ∷ hex a.physical ∷ decimal a.size ∷ or_none hex a.read ∷ or_none hex a.wrote ∷ []
+abbrev pub access_parts : Accessed → List (List ℕ)
+access_parts a = letter_text (letter_of_kind a.kind) ∷ hex a.va ∷ hex a.pa ∷ decimal a.size ∷ or_none hex a.read ∷ or_none hex a.wrote ∷ []
 
-access_six_back : (kind virtual physical size read wrote : List ℕ) (a : Access) → access_in (kind ∷ virtual ∷ physical ∷ size ∷ read ∷ wrote ∷ []) ≡ Some a
-    → IsAccess a × (access_parts a ≡ kind ∷ virtual ∷ physical ∷ size ∷ read ∷ wrote ∷ [])
-access_six_back kind virtual physical size read wrote a told =
+access_six_back : (kind va pa size read wrote : List ℕ) (a : Accessed) → access_in (kind ∷ va ∷ pa ∷ size ∷ read ∷ wrote ∷ []) ≡ Some a
+    → IsAccess a × (access_parts a ≡ kind ∷ va ∷ pa ∷ size ∷ read ∷ wrote ∷ [])
+access_six_back kind va pa size read wrote a told =
     let k = found (letter_of access_letters kind) _ a told in
-    let v = found (hex_of virtual) _ a k.gives in
-    let p = found (hex_of physical) _ a v.gives in
+    let v = found (hex_of va) _ a k.gives in
+    let p = found (hex_of pa) _ a v.gives in
     let s = found (number_of sizes size) _ a p.gives in
     let r = found (optional (sized s.value) read) _ a s.gives in
     let w = found (optional (sized s.value) wrote) _ a r.gives in
-    let access : Access = record { kind = k.value; virtual = v.value; physical = p.value; size = s.value; read = r.value; wrote = w.value } in
+    let access : Accessed = record { kind = kind_of_letter k.value; va = v.value; pa = p.value; size = s.value; read = r.value; wrote = w.value } in
     let one = access_letter_back kind k.value k.is in
-    let two = hex_back virtual v.value v.is in
-    let three = hex_back physical p.value p.is in
+    let two = hex_back va v.value v.is in
+    let three = hex_back pa p.value p.is in
     let four = number_back sizes size s.value s.is in
     let five = optional_back hex (sized s.value) (λ n. n < 2 ^ (8 * s.value)) (sized_back s.value) read r.value r.is in
     let six = optional_back hex (sized s.value) (λ n. n < 2 ^ (8 * s.value)) (sized_back s.value) wrote w.value w.is in
-    subst (λ (a : Access). IsAccess a × (access_parts a ≡ kind ∷ virtual ∷ physical ∷ size ∷ read ∷ wrote ∷ []))
+    subst (λ (a : Accessed). IsAccess a × (access_parts a ≡ kind ∷ va ∷ pa ∷ size ∷ read ∷ wrote ∷ []))
     {x = access} (same_Some access a w.gives) (
-      record { kind = one.0; virtual = two.0; physical = three.0; size = four.0; read = five.0; wrote = six.0 },
-      λ i. one.1 i ∷ two.1 i ∷ three.1 i ∷ four.1 i ∷ five.1 i ∷ six.1 i ∷ [],
+      record { va = two.0; pa = three.0; size = four.0; read = five.0; wrote = six.0 },
+      λ i. one i ∷ two.1 i ∷ three.1 i ∷ four.1 i ∷ five.1 i ∷ six.1 i ∷ [],
     )
 
-access_in_back : (parts : List (List ℕ)) (a : Access) → access_in parts ≡ Some a → IsAccess a × (access_parts a ≡ parts)
+access_in_back : (parts : List (List ℕ)) (a : Accessed) → access_in parts ≡ Some a → IsAccess a × (access_parts a ≡ parts)
 access_in_back [] x told = absurd (none-some x told)
 access_in_back (a ∷ []) x told = absurd (none-some x told)
 access_in_back (a ∷ b ∷ []) x told = absurd (none-some x told)
@@ -303,7 +324,7 @@ access_in_back (a ∷ b ∷ c ∷ d ∷ e ∷ []) x told = absurd (none-some x t
 access_in_back (a ∷ b ∷ c ∷ d ∷ e ∷ f ∷ []) x told = access_six_back a b c d e f x told
 access_in_back (a ∷ b ∷ c ∷ d ∷ e ∷ f ∷ g ∷ rest) x told = absurd (none-some x told)
 
-pub access_back : (field : List ℕ) (a : Access) → access_of field ≡ Some a → IsAccess a × (access_text a ≡ field)
+pub access_back : (field : List ℕ) (a : Accessed) → access_of field ≡ Some a → IsAccess a × (access_text a ≡ field)
 access_back field a told =
     let parts = access_in_back (parts_of colon field) a told in
     (parts.0, joined colon (access_parts a) field parts.1)
@@ -334,8 +355,8 @@ trail_back field trail told = elim (cases_Bool (bytes_eq field none_text)) [
 pub optional_write_back : (field : List ℕ) (o : Option (ℕ × ℕ)) → optional write_of field ≡ Some o → IfSome o IsWrite × (or_none write_text o ≡ field)
 optional_write_back field o told = optional_back write_text write_of IsWrite write_back field o told
 
-pub optional_access_back : (field : List ℕ) (o : Option Access) → optional access_of field ≡ Some o → IfSome o IsAccess × (or_none access_text o ≡ field)
+pub optional_access_back : (field : List ℕ) (o : Option Accessed) → optional access_of field ≡ Some o → IfSome o IsAccess × (or_none access_text o ≡ field)
 optional_access_back field o told = optional_back access_text access_of IsAccess access_back field o told
 
-pub optional_trap_back : (field : List ℕ) (o : Option TrapTaken) → optional trap_of field ≡ Some o → IfSome o IsTrap × (or_none trap_text o ≡ field)
+pub optional_trap_back : (field : List ℕ) (o : Option Trap) → optional trap_of field ≡ Some o → IfSome o IsTrap × (or_none trap_text o ≡ field)
 optional_trap_back field o told = optional_back trap_text trap_of IsTrap trap_back field o told

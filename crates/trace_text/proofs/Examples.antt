@@ -11,8 +11,8 @@ abbrev first_step : Effect
 first_step = record {
   hart = 0;
   pc = 0x84000000;
-  pa = 0x84000000;
-  word = 0x00500093;
+  pa = Some 0x84000000;
+  word = Some 0x00500093;
   rd = Some (1, 5);
   access = None;
   trail = [];
@@ -23,8 +23,8 @@ abbrev last_step : Effect
 last_step = record {
   hart = 0;
   pc = 0x84000004;
-  pa = 0x84000004;
-  word = 0x0000006f;
+  pa = Some 0x84000004;
+  word = Some 0x0000006f;
   rd = None;
   access = None;
   trail = [];

@@ -1,9 +1,13 @@
 -- A line's text is cut into its fields, and these pass the tests of its kind.
 use Rattle.std.proofs.Common.{◌≡◌, ℕ, ◌+◌, ◌*◌, ◌<◌, ◌≤◌, ◌^◌, List, [], ◌∷◌, length, get_or, map, true, refl, ap, ◌∙◌, arith, Option, Some, None, IfSome, is_some}
+use Rattle.std.specs.Prelude.{MatchOption}
 use Rattle.std.specs.List.{AllByRecursion, AllZip, flat_map}
 use Rattle.std.specs.Fmt.{decimal}
 use Rattle.std.proofs.lemmas.Bool.{cond-true}
-use Rattle.rv_fields.specs.Effect.{Effect, Access, Entry, TrapTaken}
+use Rattle.rv_fields.specs.declared.access.Accessed.{Accessed}
+use Rattle.rv_fields.specs.declared.trap.Trap.{Trap}
+use Rattle.rv_fields.specs.Effect.{Effect, Entry}
+use Rattle.trace_text.specs.Letters.{letter_of_kind, letter_of_mode}
 use Rattle.trace_text.specs.declared.line.Kind.{Kind}
 use Rattle.trace_text.specs.declared.line.Kind.TheVariants.{Ins, Mem, Jump, Csr, Sys, Value, Loop, Pick, Set}
 use Rattle.trace_text.specs.declared.line.Cause.{Cause}
@@ -16,7 +20,7 @@ use Rattle.trace_text.specs.Readings.{sizes, preambles}
 use Rattle.trace_text.specs.Traces.{IsAnyOf, IsName, IsWrite, IsAccess, IsEntry, IsTrap, IsStep, IsPath, IsLine, tells, step_tests, tests_for, line_forms}
 use Rattle.trace_text.proofs.Joins.{all_weaken, all_append, all_map, Lacks}
 use Rattle.trace_text.proofs.VisibleLines.{decimal_visible, cut_fields, no_newline}
-use Rattle.trace_text.proofs.WordBytes.{IsVisible, word_visible, joined_visible, or_none_visible, any_holds, hex_word, wide_word, name_word, access_letter_word, mode_letter_word}
+use Rattle.trace_text.proofs.WordBytes.{IsVisible, word_visible, joined_visible, or_none_visible, there_fits, any_holds, hex_word, wide_word, name_word, access_letter_word, mode_letter_word}
 use Rattle.trace_text.proofs.Spells.{Spells}
 use Rattle.trace_text.proofs.Spellings as spellings
 use Rattle.trace_text.proofs.Agains as agains
@@ -28,6 +32,9 @@ count_visible n small = decimal_visible n (omega arith)
 
 hex_visible : (n : ℕ) → n < 2 ^ 64 → IsVisible (hex n)
 hex_visible n small = word_visible (hex n) (hex_word n small)
+
+word_text_visible : (w : ℕ) → w < 2 ^ 32 → IsVisible (word_text w)
+word_text_visible w small = word_visible (word_text w) (wide_word 8 w (omega arith))
 
 name_visible : (name : Name) → IsName name → IsVisible name
 name_visible name is = word_visible name (name_word name is)
@@ -72,14 +79,14 @@ sized_visible size is o fits =
     let wide = agains.size_fits size is in
     or_none_visible hex (λ n. n < 2 ^ (8 * size)) (λ n below. hex_visible n (omega arith)) o fits
 
-access_visible : (a : Access) → IsAccess a → IsVisible (access_text a)
+access_visible : (a : Accessed) → IsAccess a → IsVisible (access_text a)
 access_visible a is =
-    joined_visible colon (letter_text a.kind ∷ hex a.virtual ∷ hex a.physical ∷ decimal a.size ∷ or_none hex a.read ∷ or_none hex a.wrote ∷ []) (omega arith) (
-      word_visible (letter_text a.kind) (access_letter_word a.kind is.kind),
+    joined_visible colon (letter_text (letter_of_kind a.kind) ∷ hex a.va ∷ hex a.pa ∷ decimal a.size ∷ or_none hex a.read ∷ or_none hex a.wrote ∷ []) (omega arith) (
+      word_visible (letter_text (letter_of_kind a.kind)) (access_letter_word a.kind),
       (
-        hex_visible a.virtual is.virtual,
+        hex_visible a.va is.va,
         (
-          hex_visible a.physical is.physical,
+          hex_visible a.pa is.pa,
           (
             count_visible a.size (agains.size_small a.size is.size),
             (sized_visible a.size is.size a.read is.read, (sized_visible a.size is.size a.wrote is.wrote, tt)),
@@ -98,13 +105,13 @@ trail_visible (e ∷ es) all =
     joined_visible comma (map entry_text (e ∷ es)) (omega arith)
     (all_map IsVisible entry_text (e ∷ es) (all_weaken IsEntry (λ e. IsVisible (entry_text e)) entry_visible (e ∷ es) all))
 
-trap_visible : (t : TrapTaken) → IsTrap t → IsVisible (trap_text t)
+trap_visible : (t : Trap) → IsTrap t → IsVisible (trap_text t)
 trap_visible t is =
-    joined_visible colon (decimal t.cause ∷ hex t.epc ∷ hex t.tval ∷ letter_text t.mode ∷ []) (omega arith) (
+    joined_visible colon (decimal t.cause ∷ hex t.epc ∷ hex t.tval ∷ letter_text (letter_of_mode t.to) ∷ []) (omega arith) (
       decimal_visible t.cause (omega (arith, is.cause)),
       (
         hex_visible t.epc is.epc,
-        (hex_visible t.tval is.tval, (word_visible (letter_text t.mode) (mode_letter_word t.mode is.mode), tt)),
+        (hex_visible t.tval is.tval, (word_visible (letter_text (letter_of_mode t.to)) (mode_letter_word t.to is.to), tt)),
       ),
     )
 
@@ -121,9 +128,9 @@ module _ (harts : ℕ) (most : harts ≤ 16) where
     (
       hex_visible e.pc is.pc,
       (
-        hex_visible e.pa is.pa,
+        or_none_visible hex (λ n. n < 2 ^ 64) hex_visible e.pa (there_fits (λ n. n < 2 ^ 64) e.pa is.pa),
         (
-          word_visible (word_text e.word) (wide_word 8 e.word (omega (arith, is.word))),
+          or_none_visible word_text (λ w. w < 2 ^ 32) word_text_visible e.word (there_fits (λ w. w < 2 ^ 32) e.word is.word),
           (
             or_none_visible write_text IsWrite write_visible e.rd is.rd,
             (
@@ -223,6 +230,11 @@ passes : {A : Type 0} {text : A → List ℕ} {reading : List ℕ → Option A} 
     → (a : A) → Fits a → tells reading (text a) ≡ true
 passes spells a fits = ap is_some (spells.again a fits)
 
+there_passes : {A : Type 0} {text : A → List ℕ} {reading : List ℕ → Option A} {Fits : A → Type 0} → Spells text reading Fits
+    → (o : Option A) → MatchOption o ⊥ Fits → tells reading (or_none text o) ≡ true
+there_passes spells None there = absurd there
+there_passes spells (Some a) there = passes spells a there
+
 module _ (harts : ℕ) (most : harts ≤ 16) where
   hart_passes : (h : ℕ) → h < harts → tells (decimal_below harts) (decimal h) ≡ true
   hart_passes h below = passes (spellings.hart_spells harts (omega arith)) h below
@@ -233,9 +245,9 @@ module _ (harts : ℕ) (most : harts ≤ 16) where
     (
       passes spellings.hex_spells e.pc is.pc,
       (
-        passes spellings.hex_spells e.pa is.pa,
+        there_passes spellings.hex_spells e.pa is.pa,
         (
-          passes spellings.word_spells e.word is.word,
+          there_passes spellings.word_spells e.word is.word,
           (
             passes spellings.optional_write_spells e.rd is.rd,
             (

@@ -1,5 +1,5 @@
 -- The line that fields tell, and that a line's own fields tell this line again.
-use Rattle.std.proofs.Common.{◌≡◌, ℕ, ◌<◌, ◌≤◌, ◌^◌, List, [], ◌∷◌, ap, ◌∙◌, Option, Some, None, codes, if◌then◌else◌}
+use Rattle.std.proofs.Common.{◌≡◌, ℕ, ◌<◌, ◌≤◌, ◌^◌, List, [], ◌∷◌, ap, ◌∙◌, Option, Some, None, option_map, codes, if◌then◌else◌}
 use Rattle.std.specs.Str.{bytes_eq}
 use Rattle.std.specs.Fmt.{decimal}
 use Rattle.rv_fields.specs.Attempt.{◌>>=◌}
@@ -9,6 +9,7 @@ use Rattle.trace_text.specs.Text.{hex, word_text, or_none, write_text, access_te
 use Rattle.trace_text.specs.Numbers.{decimal_below, word_of}
 use Rattle.trace_text.specs.Readings.{kind_of, cause_of, preambles, name_of, count_of, number_of, hex_of, register_of, space_of, path_of, bytes_of, optional, write_of, access_of, trap_of, trail_of}
 use Rattle.trace_text.specs.Traces.{IsStep, IsLine}
+use Rattle.trace_text.proofs.Agains.{there_again}
 use Rattle.trace_text.proofs.Spellings.{hart_spells, count_spells, hex_spells, space_spells, register_spells, word_spells, preamble_spells, kind_spells, cause_spells, name_spells, path_spells, bytes_spells, trail_spells, optional_write_spells, optional_access_spells, optional_trap_spells}
 
 -- What the fields behind the hart tell, for each kind of line.
@@ -69,8 +70,8 @@ touched_told hart fields = None
 abbrev effect_told : ℕ → List (List ℕ) → Option Effect
 effect_told hart (pc ∷ pa ∷ word ∷ rd ∷ access ∷ trail ∷ trap ∷ []) = do
   c ← hex_of pc
-  p ← hex_of pa
-  w ← word_of word
+  p ← option_map Some (hex_of pa)
+  w ← option_map Some (word_of word)
   r ← optional write_of rd
   a ← optional access_of access
   t ← trail_of trail
@@ -125,11 +126,12 @@ line_told harts fields = None
 -- the fields of a step behind its hart
 abbrev effect_fields : Effect → List (List ℕ)
 effect_fields e =
-    hex e.pc ∷ hex e.pa ∷ word_text e.word ∷ or_none write_text e.rd ∷ or_none access_text e.access ∷ trail_text e.trail ∷ or_none trap_text e.trap ∷ []
+    hex e.pc ∷ or_none hex e.pa ∷ or_none word_text e.word ∷ or_none write_text e.rd ∷ or_none access_text e.access ∷ trail_text e.trail ∷ or_none trap_text e.trap ∷ []
 
 effect_again : (e : Effect) → IsStep e → effect_told e.hart (effect_fields e) ≡ Some e
 effect_again e is =
-    λ i. hex_spells.again e.pc is.pc i >>= (λ c. hex_spells.again e.pa is.pa i >>= (λ p. word_spells.again e.word is.word i >>= (λ w.
+    λ i. hex_spells.again e.pc is.pc i >>= (λ c. there_again hex hex_of (λ n. n < 2 ^ 64) hex_spells.again e.pa is.pa i >>= (λ p.
+    there_again word_text word_of (λ w. w < 2 ^ 32) word_spells.again e.word is.word i >>= (λ w.
     optional_write_spells.again e.rd is.rd i >>= (λ r. optional_access_spells.again e.access is.access i >>= (λ a.
     trail_spells.again e.trail (is.short, is.trail) i >>= (λ t. optional_trap_spells.again e.trap is.trap i >>= (λ f.
     Some (record { hart = e.hart; pc = c; pa = p; word = w; rd = r; access = a; trail = t; trap = f }))))))))

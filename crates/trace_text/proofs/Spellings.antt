@@ -2,9 +2,9 @@
 use Rattle.std.proofs.Common.{◌≡◌, ℕ, ◌<◌, ◌≤◌, ◌^◌, ◌*◌, List, length, Option, IfSome}
 use Rattle.std.specs.List.{AllByRecursion, flat_map}
 use Rattle.std.specs.Fmt.{decimal}
-use Rattle.trace_text.specs.Text.{slash, joined_by, hex, word_text, byte_text, none_text, or_none, kind_text, cause_text, write_text, access_text, entry_text, trail_text, trap_text, letter_text}
+use Rattle.trace_text.specs.Text.{slash, joined_by, hex, word_text, byte_text, none_text, or_none, kind_text, cause_text, write_text, access_text, entry_text, trail_text, trap_text}
 use Rattle.trace_text.specs.Numbers.{decimal_below, word_of, byte_of}
-use Rattle.trace_text.specs.Readings.{kind_of, cause_of, access_letters, mode_letters, sizes, preambles, letter_of, name_of, count_of, number_of, hex_of, register_of, space_of, path_of, bytes_of, optional, sized, write_of, access_of, entry_of, trap_of, trail_of}
+use Rattle.trace_text.specs.Readings.{kind_of, cause_of, sizes, preambles, name_of, count_of, number_of, hex_of, register_of, space_of, path_of, bytes_of, optional, sized, write_of, access_of, entry_of, trap_of, trail_of}
 use Rattle.trace_text.specs.Traces.{IsAnyOf, IsName, IsWrite, IsAccess, IsEntry, IsTrap, IsPath, AreBytes}
 use Rattle.trace_text.proofs.Spells.{Spells}
 use Rattle.trace_text.proofs.Backs as backs
@@ -49,12 +49,6 @@ kind_spells = record { back = backs.kind_back; again = λ k any. agains.kind_aga
 
 pub cause_spells : Spells cause_text cause_of (λ c. Unit {0})
 cause_spells = record { back = backs.cause_back; again = λ c any. agains.cause_again c }
-
-pub access_letter_spells : Spells letter_text (letter_of access_letters) (IsAnyOf access_letters)
-access_letter_spells = record { back = backs.access_letter_back; again = agains.access_letter_again }
-
-pub mode_letter_spells : Spells letter_text (letter_of mode_letters) (IsAnyOf mode_letters)
-mode_letter_spells = record { back = backs.mode_letter_back; again = agains.mode_letter_again }
 
 pub name_spells : Spells (λ (name : List ℕ). name) name_of IsName
 name_spells = record { back = backs.name_back; again = agains.name_again }

@@ -5,6 +5,8 @@ use Rattle.std.specs.Char.{encode_utf8}
 use Rattle.std.specs.Fmt.{digits}
 use Rattle.trace_text.specs.Fields.{Place}
 use Rattle.rv_fields.specs.Effect.{Effect}
+use Rattle.rv_fields.specs.declared.access.AccessKind.TheVariants.{Load}
+use Rattle.rv_fields.specs.declared.mode.Mode.TheVariants.{M}
 use Rattle.trace_text.specs.declared.line.Kind.TheVariants.{Mem}
 use Rattle.trace_text.specs.declared.line.Cause.TheVariants.{NoPlace}
 use Rattle.trace_text.specs.Lines.{request, picked, weighed, given, settled, touched, made, ending, refused}
@@ -22,10 +24,10 @@ abbrev load : Effect
 load = record {
   hart = 1;
   pc = 0x1000;
-  pa = 0x84000000;
-  word = 0x0000b083;
+  pa = Some 0x84000000;
+  word = Some 0x0000b083;
   rd = Some (1, 0xff);
-  access = Some (record { kind = 0x6c; virtual = 0x2000; physical = 0x85000000; size = 8; read = Some 0xff; wrote = None });
+  access = Some (record { kind = Load; va = 0x2000; pa = 0x85000000; size = 8; read = Some 0xff; wrote = None });
   trail = record { at = 0x80001000; pte = 0x20000401 } ∷ record { at = 0x80002000; pte = 0xdf } ∷ [];
   trap = None;
 }
@@ -34,12 +36,12 @@ abbrev trapped : Effect
 trapped = record {
   hart = 0;
   pc = 0x1000;
-  pa = 0x84000000;
-  word = 0x00000073;
+  pa = Some 0x84000000;
+  word = Some 0x00000073;
   rd = None;
   access = None;
   trail = [];
-  trap = Some (record { cause = 8; epc = 0x1000; tval = 0; mode = 0x4d });
+  trap = Some (record { cause = 8; epc = 0x1000; tval = 0; to = M });
 }
 
 pub line_texts : (line_text (request 0 3 Mem) ≡ codes "q 0 3 mem\n")

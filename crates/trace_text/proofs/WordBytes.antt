@@ -1,5 +1,6 @@
 -- The bytes of fields and of their parts.
 use Rattle.std.proofs.Common.{◌≡◌, ◌≢◌, refl, ℕ, ◌<◌, ◌≤◌, ◌^◌, ◌&&◌, ◌||◌, ◌==◌, nat_le, List, [], ◌∷◌, ◌++◌, length, get_or, true, ap, sym, subst, arith, inl, inr, Option, Some, None, IfSome}
+use Rattle.std.specs.Prelude.{MatchOption}
 use Rattle.std.specs.List.{AllByRecursion, list_all, list_any}
 use Rattle.std.specs.Char.{encode_utf8}
 use Rattle.std.specs.Fmt.{decimal}
@@ -7,7 +8,11 @@ use Rattle.std.proofs.lemmas.Bool.{and_parts, or_cases, lt-ltb, eqb-true, leb-tr
 use Rattle.rv_fields.specs.Name.{is_name_byte}
 use Rattle.trace_text.specs.Lines.{Name}
 use Rattle.trace_text.specs.Text.{hex, wide_hex, none_text, or_none, joined_by, letter_text}
-use Rattle.trace_text.specs.Readings.{access_letters, mode_letters}
+use Rattle.rv_fields.specs.declared.access.AccessKind.{AccessKind}
+use Rattle.rv_fields.specs.declared.access.AccessKind.TheVariants.{Load, Store, Lr, Sc, Amo}
+use Rattle.rv_fields.specs.declared.mode.Mode.{Mode}
+use Rattle.rv_fields.specs.declared.mode.Mode.TheVariants.{U, S, M}
+use Rattle.trace_text.specs.Letters.{access_letters, mode_letters, letter_of_kind, letter_of_mode}
 use Rattle.trace_text.specs.Traces.{IsAnyOf, IsName}
 use Rattle.trace_text.proofs.Joins.{all_weaken, joined_all, Lacks, lacks}
 use Rattle.trace_text.proofs.Spelled.{IsDigitByte, decimal_bytes, decimal_nonempty, hex_bytes, hex_nonempty, wide_bytes, wide_nonempty}
@@ -92,11 +97,29 @@ mode_letter_is l is = letter_is mode_letters l (omega arith) is
 letter_word : (letters : List ℕ) (l : ℕ) → AllByRecursion IsWordByte letters → letter_text l ≡ l ∷ [] → IsAnyOf letters l → IsWord (letter_text l)
 letter_word letters l all same is = subst IsWord (sym same) (record { some = omega arith; plain = (any_holds IsWordByte letters l all is, tt) })
 
-pub access_letter_word : (l : ℕ) → IsAnyOf access_letters l → IsWord (letter_text l)
-access_letter_word l is = letter_word access_letters l (omega arith) (access_letter_is l is) is
+-- each kind of an access has one of the letters, and each mode that handles traps
 
-pub mode_letter_word : (l : ℕ) → IsAnyOf mode_letters l → IsWord (letter_text l)
-mode_letter_word l is = letter_word mode_letters l (omega arith) (mode_letter_is l is) is
+pub kind_letter : (k : AccessKind) → IsAnyOf access_letters (letter_of_kind k)
+kind_letter Load = refl
+kind_letter Store = refl
+kind_letter Lr = refl
+kind_letter Sc = refl
+kind_letter Amo = refl
+
+pub mode_letter : (m : Mode) → m ≢ U → IsAnyOf mode_letters (letter_of_mode m)
+mode_letter U other = absurd (other refl)
+mode_letter S other = refl
+mode_letter M other = refl
+
+pub access_letter_word : (k : AccessKind) → IsWord (letter_text (letter_of_kind k))
+access_letter_word k =
+    let is = kind_letter k in
+    letter_word access_letters (letter_of_kind k) (omega arith) (access_letter_is (letter_of_kind k) is) is
+
+pub mode_letter_word : (m : Mode) → m ≢ U → IsWord (letter_text (letter_of_mode m))
+mode_letter_word m other =
+    let is = mode_letter m other in
+    letter_word mode_letters (letter_of_mode m) (omega arith) (mode_letter_is (letter_of_mode m) is) is
 
 -- what a word doesn't have, and isn't
 
@@ -124,3 +147,8 @@ pub or_none_visible : {A : Type 0} (text : A → List ℕ) (Fits : A → Type 0)
     → (o : Option A) → IfSome o Fits → IsVisible (or_none text o)
 or_none_visible text Fits visible None fits = (omega arith, tt)
 or_none_visible text Fits visible (Some a) fits = visible a fits
+
+-- what is there is in its ranges where it is
+pub there_fits : {A : Type 0} (Fits : A → Type 0) (o : Option A) → MatchOption o ⊥ Fits → IfSome o Fits
+there_fits Fits None there = absurd there
+there_fits Fits (Some a) there = there

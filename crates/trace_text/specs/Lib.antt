@@ -1,5 +1,6 @@
 pub mod Bounds
 pub mod Trails
+pub mod Letters
 pub mod Parts
 pub mod Lines
 pub mod Views

@@ -1,16 +1,19 @@
 -- What each field of a trace tells; none where the field isn't as it must be.
-use Rattle.std.specs.Prelude.{ℕ, Bool, ◌==◌, nat_le, List, [], ◌∷◌, length, codes, Option, Some, None, option_map, if◌then◌else◌}
+use Rattle.std.specs.Prelude.{ℕ, Bool, ◌==◌, nat_le, List, [], ◌∷◌, length, Option, Some, None, option_map, if◌then◌else◌}
 use Rattle.std.specs.List.{find, list_any, slice_split}
 use Rattle.std.specs.Str.{bytes_eq}
 use Rattle.std.specs.Str.Parse.{digits_value}
 use Rattle.rv_fields.specs.Attempt.{◌>>=◌}
 use Rattle.rv_fields.specs.Name.{is_name}
-use Rattle.rv_fields.specs.Effect.{Access, Entry, TrapTaken}
+use Rattle.rv_fields.specs.declared.access.Accessed.{Accessed}
+use Rattle.rv_fields.specs.declared.trap.Trap.{Trap}
+use Rattle.rv_fields.specs.Effect.{Entry}
 use Rattle.trace_text.specs.Bounds.{count_bound, hex_bound, register_bound, space_bound, trap_bound, most_labels, most_bytes, most_entries, sized_bound}
 use Rattle.trace_text.specs.declared.line.Kind.{Kind}
 use Rattle.trace_text.specs.declared.line.Kind.TheVariants.{Ins, Mem, Jump, Csr, Sys, Value, Loop, Pick, Set}
 use Rattle.trace_text.specs.declared.line.Cause.{Cause}
 use Rattle.trace_text.specs.declared.line.Cause.TheVariants.{EmptyChoice, BudgetSpent, NoRegister, NoAddress, NoTarget, WindowFull, NoFreePage, NoPlace}
+use Rattle.trace_text.specs.Letters.{access_letters, mode_letters, kind_of_letter, mode_of_letter}
 use Rattle.trace_text.specs.Lines.{Name}
 use Rattle.trace_text.specs.Text.{colon, comma, slash, none_text, kind_text, cause_text}
 use Rattle.trace_text.specs.Numbers.{decimal_below, hex_below, byte_of}
@@ -31,14 +34,6 @@ kind_of field = told_by kind_text kinds field
 
 abbrev pub cause_of : List ℕ → Option Cause
 cause_of field = told_by cause_text causes field
-
--- the letters of a load, a store, an LR, an SC and an AMO
-abbrev pub access_letters : List ℕ
-access_letters = codes "lsrca"
-
--- the letters of the modes that handle traps
-abbrev pub mode_letters : List ℕ
-mode_letters = codes "MS"
 
 -- the sizes of an access, in bytes
 abbrev pub sizes : List ℕ
@@ -124,15 +119,15 @@ write_in parts = None
 abbrev pub sized : ℕ → List ℕ → Option ℕ
 sized size field = hex_below (sized_bound size) field
 
-abbrev pub access_in : List (List ℕ) → Option Access
-access_in (kind ∷ virtual ∷ physical ∷ size ∷ read ∷ wrote ∷ []) = do
+abbrev pub access_in : List (List ℕ) → Option Accessed
+access_in (kind ∷ va ∷ pa ∷ size ∷ read ∷ wrote ∷ []) = do
   k ← letter_of access_letters kind
-  v ← hex_of virtual
-  p ← hex_of physical
+  v ← hex_of va
+  p ← hex_of pa
   s ← number_of sizes size
   r ← optional (sized s) read
   w ← optional (sized s) wrote
-  Some (record { kind = k; virtual = v; physical = p; size = s; read = r; wrote = w })
+  Some (record { kind = kind_of_letter k; va = v; pa = p; size = s; read = r; wrote = w })
 access_in parts = None
 
 abbrev pub entry_in : List (List ℕ) → Option Entry
@@ -142,25 +137,25 @@ entry_in (at ∷ pte ∷ []) = do
   Some (record { at = a; pte = p })
 entry_in parts = None
 
-abbrev pub trap_in : List (List ℕ) → Option TrapTaken
-trap_in (cause ∷ epc ∷ tval ∷ mode ∷ []) = do
+abbrev pub trap_in : List (List ℕ) → Option Trap
+trap_in (cause ∷ epc ∷ tval ∷ to ∷ []) = do
   c ← decimal_below trap_bound cause
   e ← hex_of epc
   t ← hex_of tval
-  m ← letter_of mode_letters mode
-  Some (record { cause = c; epc = e; tval = t; mode = m })
+  m ← letter_of mode_letters to
+  Some (record { cause = c; epc = e; tval = t; to = mode_of_letter m })
 trap_in parts = None
 
 abbrev pub write_of : List ℕ → Option (ℕ × ℕ)
 write_of field = write_in (parts_of colon field)
 
-abbrev pub access_of : List ℕ → Option Access
+abbrev pub access_of : List ℕ → Option Accessed
 access_of field = access_in (parts_of colon field)
 
 abbrev pub entry_of : List ℕ → Option Entry
 entry_of field = entry_in (parts_of colon field)
 
-abbrev pub trap_of : List ℕ → Option TrapTaken
+abbrev pub trap_of : List ℕ → Option Trap
 trap_of field = trap_in (parts_of colon field)
 
 abbrev pub trail_of : List ℕ → Option (List Entry)

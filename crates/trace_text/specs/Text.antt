@@ -3,7 +3,10 @@ use Rattle.std.specs.Prelude.{ℕ, ◌+◌, ◌-◌, List, [], ◌∷◌, ◌++�
 use Rattle.std.specs.List.{flat_map, join_with_byte}
 use Rattle.std.specs.Char.{encode_utf8}
 use Rattle.std.specs.Fmt.{decimal, digits}
-use Rattle.rv_fields.specs.Effect.{Effect, Access, Entry, TrapTaken}
+use Rattle.rv_fields.specs.declared.access.Accessed.{Accessed}
+use Rattle.rv_fields.specs.declared.trap.Trap.{Trap}
+use Rattle.rv_fields.specs.Effect.{Effect, Entry}
+use Rattle.trace_text.specs.Letters.{letter_of_kind, letter_of_mode}
 use Rattle.trace_text.specs.declared.line.Kind.{Kind}
 use Rattle.trace_text.specs.declared.line.Kind.TheVariants.{Ins, Mem, Jump, Csr, Sys, Value, Loop, Pick, Set}
 use Rattle.trace_text.specs.declared.line.Cause.{Cause}
@@ -83,9 +86,9 @@ cause_text NoPlace = codes "no-place"
 abbrev pub write_text : ℕ × ℕ → List ℕ
 write_text w = joined_by colon (decimal w.0 ∷ hex w.1 ∷ [])
 
-abbrev pub access_text : Access → List ℕ
+abbrev pub access_text : Accessed → List ℕ
 access_text a =
-    joined_by colon (letter_text a.kind ∷ hex a.virtual ∷ hex a.physical ∷ decimal a.size ∷ or_none hex a.read ∷ or_none hex a.wrote ∷ [])
+    joined_by colon (letter_text (letter_of_kind a.kind) ∷ hex a.va ∷ hex a.pa ∷ decimal a.size ∷ or_none hex a.read ∷ or_none hex a.wrote ∷ [])
 
 abbrev pub entry_text : Entry → List ℕ
 entry_text e = joined_by colon (hex e.at ∷ hex e.pte ∷ [])
@@ -94,13 +97,13 @@ abbrev pub trail_text : List Entry → List ℕ
 trail_text [] = none_text
 trail_text (e ∷ es) = joined_by comma (map entry_text (e ∷ es))
 
-abbrev pub trap_text : TrapTaken → List ℕ
-trap_text t = joined_by colon (decimal t.cause ∷ hex t.epc ∷ hex t.tval ∷ letter_text t.mode ∷ [])
+abbrev pub trap_text : Trap → List ℕ
+trap_text t = joined_by colon (decimal t.cause ∷ hex t.epc ∷ hex t.tval ∷ letter_text (letter_of_mode t.to) ∷ [])
 
--- HART PC PA WORD RD ACCESS TRAIL TRAP
+-- HART PC PA WORD RD ACCESS TRAIL TRAP: a step line has a PA and a WORD
 abbrev pub step_fields : Effect → List (List ℕ)
 step_fields e =
-    decimal e.hart ∷ hex e.pc ∷ hex e.pa ∷ word_text e.word ∷ or_none write_text e.rd ∷ or_none access_text e.access ∷ trail_text e.trail
+    decimal e.hart ∷ hex e.pc ∷ or_none hex e.pa ∷ or_none word_text e.word ∷ or_none write_text e.rd ∷ or_none access_text e.access ∷ trail_text e.trail
     ∷ or_none trap_text e.trap ∷ []
 
 -- the fields of a line, the first of which tells what the line is

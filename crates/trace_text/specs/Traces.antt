@@ -1,16 +1,19 @@
 -- The form of a trace, and the traces that it spells.
-use Rattle.std.specs.Prelude.{ℕ, ◌^◌, ◌<◌, ◌≤◌, false, List, [], ◌∷◌, length, codes, get_or, Option, Some, None, IsTrue, IfSome, if◌then◌else◌}
+use Rattle.std.specs.Prelude.{ℕ, ◌≢◌, ◌^◌, ◌<◌, ◌≤◌, false, List, [], ◌∷◌, length, codes, get_or, Option, Some, None, IsTrue, IfSome, MatchOption, if◌then◌else◌}
 use Rattle.std.specs.Option.{is_some}
 use Rattle.std.specs.List.{AllByRecursion}
 use Rattle.std.specs.Str.{bytes_eq}
 use Rattle.rv_fields.specs.Name.{is_name}
-use Rattle.rv_fields.specs.Effect.{Effect, Access, Entry, TrapTaken}
+use Rattle.rv_fields.specs.declared.mode.Mode.TheVariants.{U}
+use Rattle.rv_fields.specs.declared.access.Accessed.{Accessed}
+use Rattle.rv_fields.specs.declared.trap.Trap.{Trap}
+use Rattle.rv_fields.specs.Effect.{Effect, Entry}
 use Rattle.trace_text.specs.Bounds.{count_bound, hex_bound, register_bound, space_bound, trap_bound, most_labels, most_bytes, most_entries, sized_bound}
 use Rattle.trace_text.specs.Lines.{Name, Line, hart_of, request, picked, weighed, fixed, given, settled, touched, made, found, ending, done, refused}
 use Rattle.trace_text.specs.Numbers.{decimal_below, word_of}
 use Rattle.trace_text.specs.Fields.{Test, Form, Place, fault_of}
 use Rattle.trace_text.specs.Orders.{is_word, header_tests, number_in, most_harts}
-use Rattle.trace_text.specs.Readings.{is_any_of, access_letters, mode_letters, sizes, preambles, kind_of, cause_of, name_of, count_of, hex_of, register_of, space_of, number_of, path_of, bytes_of, optional, write_of, access_of, trail_of, trap_of}
+use Rattle.trace_text.specs.Readings.{is_any_of, sizes, preambles, kind_of, cause_of, name_of, count_of, hex_of, register_of, space_of, number_of, path_of, bytes_of, optional, write_of, access_of, trail_of, trap_of}
 
 -- The ranges that a trace keeps.
 
@@ -26,10 +29,9 @@ pub record IsWrite (w : ℕ × ℕ) : Type 0 where
   pub register : w.0 < register_bound
   pub value : w.1 < hex_bound
 
-pub record IsAccess (a : Access) : Type 0 where
-  pub kind : IsAnyOf access_letters a.kind
-  pub virtual : a.virtual < hex_bound
-  pub physical : a.physical < hex_bound
+pub record IsAccess (a : Accessed) : Type 0 where
+  pub va : a.va < hex_bound
+  pub pa : a.pa < hex_bound
   pub size : IsAnyOf sizes a.size
   pub read : IfSome a.read (λ n. n < sized_bound a.size)
   pub wrote : IfSome a.wrote (λ n. n < sized_bound a.size)
@@ -38,16 +40,17 @@ pub record IsEntry (e : Entry) : Type 0 where
   pub at : e.at < hex_bound
   pub pte : e.pte < hex_bound
 
-pub record IsTrap (t : TrapTaken) : Type 0 where
+pub record IsTrap (t : Trap) : Type 0 where
   pub cause : t.cause < trap_bound
   pub epc : t.epc < hex_bound
   pub tval : t.tval < hex_bound
-  pub mode : IsAnyOf mode_letters t.mode
+  pub to : t.to ≢ U
 
+-- a step line has a physical address and a word
 pub record IsStep (e : Effect) : Type 0 where
   pub pc : e.pc < hex_bound
-  pub pa : e.pa < hex_bound
-  pub word : e.word < 2 ^ 32
+  pub pa : MatchOption e.pa ⊥ (λ pa. pa < hex_bound)
+  pub word : MatchOption e.word ⊥ (λ word. word < 2 ^ 32)
   pub rd : IfSome e.rd IsWrite
   pub access : IfSome e.access IsAccess
   pub short : length e.trail ≤ most_entries

@@ -1,29 +1,21 @@
 -- The lines that the types of this crate hold.
-use Rattle.std.specs.Prelude.{List, map, option_map}
-use Rattle.rv_fields.specs.Effect as effect
-use Rattle.trace_text.specs.declared.line.AccessText.{AccessText}
-use Rattle.trace_text.specs.declared.line.TrapText.{TrapText}
+use Rattle.std.specs.Prelude.{List, map, Some}
+use Rattle.rv_fields.specs.Effect.{Effect}
 use Rattle.trace_text.specs.declared.line.StepLine.{StepLine}
 use Rattle.trace_text.specs.declared.line.Line as code
 use Rattle.trace_text.specs.declared.line.Line.TheVariants.{Q, P, W, X, G, M, Y, S, F, E, D, R}
 use Rattle.trace_text.specs.Lines.{Line, request, picked, weighed, fixed, given, settled, touched, made, found, ending, done, refused}
 
-abbrev pub access_seen : AccessText → effect.Access
-access_seen a = record { kind = a.kind; virtual = a.va; physical = a.pa; size = a.size; read = a.read; wrote = a.wrote }
-
-abbrev pub trap_seen : TrapText → effect.TrapTaken
-trap_seen t = record { cause = t.cause; epc = t.epc; tval = t.tval; mode = t.to }
-
-abbrev pub effect_seen : StepLine → effect.Effect
+abbrev pub effect_seen : StepLine → Effect
 effect_seen s = record {
   hart = s.hart;
   pc = s.pc;
-  pa = s.pa;
-  word = s.word;
+  pa = Some s.pa;
+  word = Some s.word;
   rd = s.rd;
-  access = option_map access_seen s.access;
+  access = s.access;
   trail = s.trail;
-  trap = option_map trap_seen s.trap;
+  trap = s.trap;
 }
 
 abbrev pub line_seen : code.Line → Line

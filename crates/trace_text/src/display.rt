@@ -6,7 +6,7 @@ ghost use Rattle.std.specs.Fmt.{WritesOnOk};
 ghost use Rattle.trace_text.specs.Trails.{entry_seen};
 ghost use Rattle.trace_text.specs.Text.{slash, hex, word_text, byte_text, letter_text, none_text, write_text, access_text, entry_text, trail_text, trap_text, joined_by, space_byte, step_fields, line_body};
 ghost use Rattle.trace_text.specs.Lines.{hart_of};
-ghost use Rattle.trace_text.specs.Views.{access_seen, trap_seen, effect_seen, line_seen};
+ghost use Rattle.trace_text.specs.Views.{effect_seen, line_seen};
 
 use crate::entry::EntryText;
 use crate::line::{AccessText, Line, StepLine, TrapText};
@@ -129,7 +129,7 @@ impl fmt::Display for Written {
 }
 
 impl fmt::Display for AccessText {
-    ghost output = { λ access. Some (access_text (access_seen access)) };
+    ghost output = { λ access. Some (access_text access) };
 
     fn fmt<W: fmt::Write>(&self, f: &mut fmt::Formatter<W>) -> fmt::Result {
         let AccessText {
@@ -169,7 +169,7 @@ impl fmt::Display for TrailText {
 }
 
 impl fmt::Display for TrapText {
-    ghost output = { λ trap. Some (trap_text (trap_seen trap)) };
+    ghost output = { λ trap. Some (trap_text trap) };
 
     fn fmt<W: fmt::Write>(&self, f: &mut fmt::Formatter<W>) -> fmt::Result {
         let TrapText {

@@ -1,5 +1,5 @@
 //! The fields of a line, taken one after another.
-ghost use Rattle.std.specs.Prelude.{◌≡◌, ◌+◌, ◌<◌, ◌≤◌, ◌^◌, [], true, List, ℕ, MatchResult, IfSome, length, option_map};
+ghost use Rattle.std.specs.Prelude.{◌≡◌, ◌+◌, ◌<◌, ◌≤◌, ◌^◌, [], true, List, ℕ, MatchResult, IfSome, length};
 ghost use Rattle.std.specs.List.{flat_map, AllByRecursion};
 ghost use Rattle.std.specs.Fmt.{decimal};
 ghost use Rattle.std.specs.Str.Parse.{digits_value};
@@ -8,7 +8,6 @@ ghost use Rattle.trace_text.specs.Fields.{fields_of};
 ghost use Rattle.trace_text.specs.Numbers.{decimal_below, word_of};
 ghost use Rattle.trace_text.specs.Readings.{hex_of, count_of, kind_of, cause_of, number_of, preambles, name_of, register_of, space_of, path_of, bytes_of, optional, write_of, access_of, trail_of, trap_of};
 ghost use Rattle.trace_text.specs.Traces.{IsAnyOf, IsName, IsPath, AreBytes, IsWrite, IsAccess, IsEntry, IsTrap};
-ghost use Rattle.trace_text.specs.Views.{access_seen, trap_seen};
 ghost use Rattle.trace_text.specs.Orders.{is_word, is_decimal, is_another_hart};
 ghost use Rattle.trace_text.specs.Taking.{left, Took, Takes, Lacks, Leaves};
 
@@ -197,7 +196,7 @@ impl<'a> Fields<'a> {
     /// What a step read or wrote in memory, where it did.
     pub(crate) fn access(&mut self) -> Result<Option<AccessText>, LineFault>
         requires { self.old.number < 100 }
-        ensures { Takes (optional access_of) (or_none access_text) (λ access. IfSome access IsAccess) (λ access. option_map access_seen access) self.old self.new result }
+        ensures { Takes (optional access_of) (or_none access_text) (λ access. IfSome access IsAccess) (λ v. v) self.old self.new result }
     {
         let fault = self.fault();
         let field = self.parts.next().ok_or(fault)?;
@@ -221,7 +220,7 @@ impl<'a> Fields<'a> {
     /// The trap that a step took, where it took one.
     pub(crate) fn trap(&mut self) -> Result<Option<TrapText>, LineFault>
         requires { self.old.number < 100 }
-        ensures { Takes (optional trap_of) (or_none trap_text) (λ trap. IfSome trap IsTrap) (λ trap. option_map trap_seen trap) self.old self.new result }
+        ensures { Takes (optional trap_of) (or_none trap_text) (λ trap. IfSome trap IsTrap) (λ v. v) self.old self.new result }
     {
         let fault = self.fault();
         let field = self.parts.next().ok_or(fault)?;

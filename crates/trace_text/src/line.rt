@@ -1,5 +1,6 @@
 use crate::trail::TrailText;
 use rv_fields::Name;
+use std::marker::Model;
 
 /// What a request is: the key that leads its item in a job.
 #[derive(Clone, Copy, Debug, PartialEq, Eq)]
@@ -45,6 +46,20 @@ pub struct AccessText {
     pub wrote: Option<u64>,
 }
 
+impl Model for AccessText {
+    ghost use Rattle.std.specs.Prelude.{◌≡◌};
+    ghost use Rattle.rv_fields.specs.declared.access.Accessed.{Accessed};
+    ghost use Rattle.trace_text.specs.Letters.{letter_of_kind, kind_of_letter};
+
+    ghost Value = { Accessed };
+
+    ghost view = { λ a. record { kind = kind_of_letter a.kind; va = a.va; pa = a.pa; size = a.size; read = a.read; wrote = a.wrote } };
+
+    ghost inverse = { λ a. record { kind = letter_of_kind a.kind; va = a.va; pa = a.pa; size = a.size; read = a.read; wrote = a.wrote } };
+
+    ghost invariant = { λ a. letter_of_kind (kind_of_letter a.kind) ≡ a.kind };
+}
+
 /// The trap that a step took.
 #[derive(Clone, Copy, Debug, PartialEq, Eq)]
 pub struct TrapText {
@@ -54,6 +69,20 @@ pub struct TrapText {
     pub tval: u64,
     /// The letter of the mode that handles it: `M` or `S`.
     pub to: u8,
+}
+
+impl Model for TrapText {
+    ghost use Rattle.std.specs.Prelude.{◌≡◌};
+    ghost use Rattle.rv_fields.specs.declared.trap.Trap.{Trap};
+    ghost use Rattle.trace_text.specs.Letters.{letter_of_mode, mode_of_letter};
+
+    ghost Value = { Trap };
+
+    ghost view = { λ t. record { cause = t.cause; epc = t.epc; tval = t.tval; to = mode_of_letter t.to } };
+
+    ghost inverse = { λ t. record { cause = t.cause; epc = t.epc; tval = t.tval; to = letter_of_mode t.to } };
+
+    ghost invariant = { λ t. letter_of_mode (mode_of_letter t.to) ≡ t.to };
 }
 
 /// What one step did.

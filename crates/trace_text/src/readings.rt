@@ -2,10 +2,9 @@
 ghost use Rattle.std.specs.Prelude.{◌≡◌, ◌++◌, ◌∷◌, [], ◌≤◌, ◌<◌, ◌*◌, ◌^◌, option_map, IfOk, Some, MatchOption, true, false};
 ghost use Rattle.std.specs.Str.Parse.{digits_value};
 ghost use Rattle.trace_text.specs.Trails.{entry_seen};
-ghost use Rattle.trace_text.specs.Views.{access_seen, trap_seen};
 ghost use Rattle.trace_text.specs.Text.{none_text, kind_text, cause_text};
 ghost use Rattle.trace_text.specs.Orders.{is_word, is_another_hart};
-ghost use Rattle.trace_text.specs.Readings.{told_by, kind_of, cause_of, count_of, letter_of, number_of, sizes, preambles, access_letters, mode_letters, register_of, space_of, hex_of, sized, optional, path_of, bytes_of, pairs_of, write_of, access_of, entry_of, trail_of, trap_of};
+ghost use Rattle.trace_text.specs.Readings.{told_by, kind_of, cause_of, count_of, letter_of, number_of, sizes, preambles, register_of, space_of, hex_of, sized, optional, path_of, bytes_of, pairs_of, write_of, access_of, entry_of, trail_of, trap_of};
 
 use crate::entry::EntryText;
 use crate::line::{AccessText, Cause, Kind, TrapText};
@@ -138,7 +137,7 @@ fn entry_of(field: &[u8]) -> Option<EntryText>
 
 /// The trap that a step took.
 fn trap_of(field: &[u8]) -> Option<TrapText>
-    ensures { option_map trap_seen result ≡ trap_of field.now }
+    ensures { result ≡ trap_of field.now }
 {
     let mut parts = Parts::of(field, b':');
     let cause = parts.next()?;
@@ -158,7 +157,7 @@ fn trap_of(field: &[u8]) -> Option<TrapText>
 
 /// What a step read or wrote in memory.
 fn access_of(field: &[u8]) -> Option<AccessText>
-    ensures { option_map access_seen result ≡ access_of field.now }
+    ensures { result ≡ access_of field.now }
 {
     let mut parts = Parts::of(field, b':');
     let kind = parts.next()?;
@@ -209,7 +208,7 @@ pub(crate) fn optional_write_of(field: &[u8]) -> Option<Option<(u8, u64)>>
 
 /// What a step read or wrote in memory, where it did.
 pub(crate) fn optional_access_of(field: &[u8]) -> Option<Option<AccessText>>
-    ensures { option_map (λ a. option_map access_seen a) result ≡ optional access_of field.now }
+    ensures { result ≡ optional access_of field.now }
 {
     if is_none(field) {
         Some(None)
@@ -220,7 +219,7 @@ pub(crate) fn optional_access_of(field: &[u8]) -> Option<Option<AccessText>>
 
 /// The trap that a step took, where it took one.
 pub(crate) fn optional_trap_of(field: &[u8]) -> Option<Option<TrapText>>
-    ensures { option_map (λ t. option_map trap_seen t) result ≡ optional trap_of field.now }
+    ensures { result ≡ optional trap_of field.now }
 {
     if is_none(field) {
         Some(None)
