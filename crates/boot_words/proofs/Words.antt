@@ -8,7 +8,7 @@ use Rattle.std.proofs.lemmas.Bool.Decides.{eqb_tells}
 use Rattle.boot_words.specs.Boot.{boot_block, boot_csr_numbers, load_word, write_word}
 
 -- whether the test holds at each number below n
-holds_below : (ℕ → Bool) → ℕ → Bool
+unfoldable pub holds_below : (ℕ → Bool) → ℕ → Bool
 holds_below p zero = true
 holds_below p (suc n) = p n && holds_below p n
 
@@ -20,7 +20,7 @@ second_true : (a b : Bool) → (a && b) ≡ true → b ≡ true
 second_true true b h = h
 second_true false b h = cc
 
-holds_at : (p : ℕ → Bool) (n : ℕ) → holds_below p n ≡ true → (k : ℕ) → k < n → p k ≡ true
+pub holds_at : (p : ℕ → Bool) (n : ℕ) → holds_below p n ≡ true → (k : ℕ) → k < n → p k ≡ true
 unfolding holds_below
 holds_at p zero h k lt = absurd (omega arith)
 holds_at p (suc n) h k lt =

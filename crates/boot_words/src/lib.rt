@@ -15,5 +15,5 @@ pub use layout::{
     DISPATCHER_AT, M_HANDLER_AT, S_HANDLER_AT, boot_block_at, boot_csrs_at, boot_registers_at,
     code_start,
 };
-pub use start::{BootValues, boot_values};
+pub use start::{BootValues, boot_values, start_csrs};
 pub use trap::handler;

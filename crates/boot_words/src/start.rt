@@ -1,12 +1,17 @@
 ghost use Rattle.std.specs.Prelude.{◌≡◌};
 ghost use Rattle.boot_words.specs.Boot.{boot_csrs, boot_registers};
+ghost use Rattle.boot_words.specs.Startup.{start_csrs};
 ghost use Rattle.value_file.specs.Values.{initial_of};
 
 use crate::layout::{M_HANDLER_AT, code_start};
+use rv_csr::{CsrFile, reset_of};
 use value_file::ValueFile;
 
 /// mstatus with M in its field MPP, so that mret goes on in mode M.
 const MPP_IS_M: u64 = 0x1800;
+
+/// mstatus with MPIE, as `mret` leaves it.
+const MPIE_IS_1: u64 = 0x80;
 
 /// The virtual address of the handler of mode S: the last page of the lower half of Sv39.
 const S_HANDLER_PAGE: u64 = 0x3f_ffff_f000;
@@ -49,6 +54,36 @@ pub fn boot_values(hart: u8, values: &ValueFile) -> BootValues
         ],
         x: registers(values),
     }
+}
+
+/// The CSRs that the boot of a hart leaves.
+pub fn start_csrs(hart: u8) -> CsrFile
+    ensures { result ≡ start_csrs hart }
+{
+    reset_of(
+        hart,
+        &[
+            0, // sstatus
+            S_HANDLER_PAGE, // stvec
+            0, // sscratch
+            0, // sepc
+            0, // scause
+            0, // stval
+            0, // satp
+            MPIE_IS_1, // mstatus
+            0, // medeleg
+            0, // mideleg
+            0, // mie
+            M_HANDLER_AT, // mtvec
+            0, // mscratch
+            code_start(hart), // in mepc
+            0, // mcause
+            0, // mtval
+            0, // pmpcfg0
+            0, // pmpaddr0
+            0, // mhartid
+        ],
+    )
 }
 
 /// The starting values of x1 to x31.
