@@ -1,30 +1,45 @@
 -- What a hart's event adds, from what its parts say.
 use Rattle.std.proofs.Common.{ℕ, ◌&&◌, Bool, true, false, leb, ◌+◌, ◌%◌, ◌^◌, ◌<◌, ◌≤◌, ◌≡◌, List, [], ◌∷◌, ◌++◌, length, Option, Some, None, inl, inr, refl, sym, ap, subst, ◌∙◌, arith, rules, lit<, append_assoc, append-nil}
-use Rattle.std.specs.Prelude.{IsSome, IsTrue, slice_index}
+use Rattle.std.specs.Prelude.{IsTrue}
 use Rattle.std.proofs.lemmas.Bool.Decides.{nat_tests}
 use Rattle.rv_fields.specs.Memory.{in_ram}
 use Rattle.std.proofs.lemmas.List.{map-append, length-map}
 use Rattle.rv_fields.specs.Decode.{decoded}
 use Rattle.rv_fields.specs.Effect.{Effect}
-use Rattle.rv_fields.specs.Step.{Retired, retired, updated, with_write}
+use Rattle.rv_fields.specs.declared.mode.Mode.TheVariants.{M}
+use Rattle.rv_fields.specs.Hart.{Hart}
+use Rattle.rv_fields.specs.Step.{Stepped, behind, step, with_write}
 use Rattle.region_plan.specs.declared.request.Request.{Request}
 use Rattle.region_plan.specs.Rules.{IsMakeable}
 use Rattle.trace_text.specs.declared.line.Line as code
-use Rattle.choice_tree.specs.Draws.{Draws, word_of}
+use Rattle.choice_tree.specs.Draws.{Draws}
 use Rattle.trace_text.specs.Lines.{Line, fixed, made, ending, done}
 use Rattle.trace_text.specs.Views.{line_seen, lines_seen}
 use Rattle.hart_task.specs.declared.task.Phase.TheVariants as tasks
 use Rattle.hart_task.specs.Answering.{end_word}
 use Rattle.hart_task.specs.declared.log.HartLog.{HartLog}
 use Rattle.hart_task.specs.Room.{Whole, HasRoom, with_event}
-use Rattle.hart_task.specs.Machine.{asked, with_present}
-use Rattle.hart_task.specs.Task.{TaskSeen, FixesSource, ReadsSource, StepsWord, MakesStep, MakesWord, MakesEnd}
-use Rattle.hart_task.proofs.Retiring.{effect_is_of, request_retires, end_effect, end_retires}
+use Rattle.hart_task.specs.Bus.{word_seen}
+use Rattle.hart_task.specs.Machine.{StepsPlainly, asked, effect_word, plain_effect}
+use Rattle.hart_task.specs.Task.{TaskSeen, ReadsSource, StepsWord, MakesStep, MakesWord, MakesEnd}
+use Rattle.hart_task.proofs.Retiring.{own_word_told, plain_step, request_step, request_steps, end_step, end_steps}
 
--- what retires is something
-pub is_some : (m : Option Retired) (r : Retired) → m ≡ Some r → IsSome m
-is_some None r e = absurd cc
-is_some (Some q) r e = search rules
+-- the words of requests that can be made, and the ending word, make plain steps
+pub request_plainly : (r : Request) (hart : Hart) (word a b : ℕ) → IsMakeable r → hart.mode ≡ M → IsTrue (in_ram hart.pc 4) → word < 2 ^ 32
+    → decoded word ≡ Some (asked r) → hart.x (asked r).ops.rs1 ≡ Some a → hart.x (asked r).ops.rs2 ≡ Some b → StepsPlainly hart word
+request_plainly r hart word a b makeable is_m in_it small is rs1 rs2 = record {
+  stepped = request_step r hart word a b;
+  steps = request_steps r hart word a b makeable is_m (own_word_told hart.pc word in_it small) is rs1 rs2;
+  plain = refl;
+}
+
+pub end_plainly : (hart : Hart) → hart.mode ≡ M → IsTrue (in_ram hart.pc 4) → hart.pc % 4 ≡ 0 → hart.pc < 2 ^ 64 → hart.x 0 ≡ Some 0
+    → StepsPlainly hart end_word
+end_plainly hart is_m in_it aligned small is_zero = record {
+  stepped = end_step hart;
+  steps = end_steps hart is_m (own_word_told hart.pc end_word in_it (lit< tt)) aligned small is_zero;
+  plain = refl;
+}
 
 -- room for some lines is room for fewer
 pub less_room : (log : HartLog) (count fewer : ℕ) → fewer ≤ count → HasRoom count log → HasRoom fewer log
@@ -49,10 +64,10 @@ pub record Added (old new : Whole) (rd : Option (ℕ × ℕ)) (event : List code
   pub ends : new.ends ≡ old.ends ++ length (lines_seen new.lines) ∷ []
   pub words : new.words ≡ old.words ++ ws
   pub initial : new.initial ≡ old.initial
-  pub present : new.present ≡ with_present old.present rd
+  pub present : new.present ≡ with_write old.present rd
 
 pub added : (old written new : Whole) (rd : Option (ℕ × ℕ)) (event : List code.Line) (ws : List ℕ)
-    → written ≡ record old { present = with_present old.present rd } → new ≡ with_event written event ws → Added old new rd event ws
+    → written ≡ record old { present = with_write old.present rd } → new ≡ with_event written event ws → Added old new rd event ws
 added old written new rd event ws same is =
     let lines : new.lines ≡ old.lines ++ event = ap (λ (w : Whole). w.lines) is ∙ ap (λ (w : Whole). w.lines ++ event) same in
     let count : length (lines_seen new.lines) ≡ length (old.lines ++ event) = length-map new.lines line_seen ∙ ap length lines in
@@ -65,81 +80,90 @@ added old written new rd event ws same is =
     }
 
 -- two results of one step are one
-same_result : (r q : Retired) (m : Option Retired) → m ≡ Some r → m ≡ Some q → r ≡ q
-same_result r q m e f = cc
+same_step : (s t : Stepped) (m : Option Stepped) → m ≡ Some s → m ≡ Some t → s ≡ t
+same_step s t m e f = cc
 
--- a step of a word that was made
-pub steps_word : (old new : TaskSeen) (e : Effect) (word : ℕ) → word < 2 ^ 32
-    → retired old.number old.pc old.pc word (λ q. Some (slice_index old.x q)) ≡ Some (record { effect = e; next = new.pc })
-    → (λ q. slice_index new.x q) ≡ with_write (λ q. slice_index old.x q) e.rd
-    → new.present ≡ with_present old.present e.rd → new.initial ≡ old.initial → new.draws ≡ old.draws
-    → (word ≡ e.word) × StepsWord old new e
-steps_word old new e word small did x present initial draws =
-    let of_word : word ≡ e.word = sym (effect_is_of old.number old.pc old.pc word (λ q. Some (slice_index old.x q)) (record { effect = e; next = new.pc }) did).word_is in (
-      of_word,
-      record {
+-- a step of a word that was made, and how it was to go
+record Went (old new : TaskSeen) (e : Effect) (word next : ℕ) : Type 0 where
+  of_word : word ≡ effect_word e
+  told : e.word ≡ Some word
+  steps : StepsWord old new e
+  pc : new.hart.pc ≡ next
+  number : new.hart.number ≡ old.hart.number
+
+went : (old new : TaskSeen) (e : Effect) (word next : ℕ) (rd : Option (ℕ × ℕ)) → word < 2 ^ 32 → IsTrue (in_ram old.hart.pc 4)
+    → step (word_seen old.hart.pc word) old.hart ≡ Some (plain_step old.hart word rd next)
+    → step (word_seen old.hart.pc word) old.hart ≡ Some (record { effect = e; hart = new.hart })
+    → new.present ≡ with_write old.present e.rd → new.initial ≡ old.initial → new.draws ≡ old.draws → Went old new e word next
+went old new e word next rd small in_it goes did present initial draws =
+    let same : plain_step old.hart word rd next ≡ record { effect = e; hart = new.hart } = same_step _ _ _ goes did in
+    let of_word : word ≡ effect_word e = ap (λ (s : Stepped). effect_word s.effect) same in
+    let plain : e ≡ plain_effect old.hart word e.rd =
+    sym (ap (λ (s : Stepped). s.effect) same) ∙ ap (λ (s : Stepped). plain_effect old.hart word s.effect.rd) same in
+    record {
+      of_word = of_word;
+      told = ap (λ (q : Effect). q.word) plain;
+      steps = record {
         small = subst (λ w. w < 2 ^ 32) of_word small;
-        retires = subst (λ w. retired old.number old.pc old.pc w (λ q. Some (slice_index old.x q)) ≡ Some (record { effect = e; next = new.pc })) of_word did;
-        x = x;
+        in_it = in_it;
+        steps = subst (λ w. step (word_seen old.hart.pc w) old.hart ≡ Some (record { effect = e; hart = new.hart })) of_word did;
+        plain = plain ∙ ap (λ w. plain_effect old.hart w e.rd) of_word;
+        mode = sym (ap (λ (s : Stepped). s.hart.mode) same);
         present = present;
         initial = initial;
         draws = draws;
-      },
-    )
+      };
+      pc = sym (ap (λ (s : Stepped). s.hart.pc) same);
+      number = sym (ap (λ (s : Stepped). s.hart.number) same);
+    }
 
-pub makes_step : (r : Request) (old new : TaskSeen) (e : Effect) (word : ℕ)
-    → IsMakeable r → decoded word ≡ Some (asked r) → word < 2 ^ 32
-    → retired old.number old.pc old.pc word (λ q. Some (slice_index old.x q)) ≡ Some (record { effect = e; next = new.pc })
-    → (λ q. slice_index new.x q) ≡ with_write (λ q. slice_index old.x q) e.rd
-    → new.present ≡ with_present old.present e.rd → new.initial ≡ old.initial → new.draws ≡ old.draws
-    → new.number ≡ old.number → new.phase ≡ tasks.Between → new.done ≡ old.done + 1
-    → new.log.lines ≡ old.log.lines ++ made e ∷ done old.number old.done ∷ []
+pub makes_step : (r : Request) (old new : TaskSeen) (e : Effect) (word a b : ℕ)
+    → IsMakeable r → decoded word ≡ Some (asked r) → word < 2 ^ 32 → IsTrue (in_ram old.hart.pc 4) → old.hart.mode ≡ M
+    → old.hart.x (asked r).ops.rs1 ≡ Some a → old.hart.x (asked r).ops.rs2 ≡ Some b
+    → step (word_seen old.hart.pc word) old.hart ≡ Some (record { effect = e; hart = new.hart })
+    → new.present ≡ with_write old.present e.rd → new.initial ≡ old.initial → new.draws ≡ old.draws
+    → new.phase ≡ tasks.Between → new.done ≡ old.done + 1
+    → new.log.lines ≡ old.log.lines ++ made e ∷ done new.hart.number old.done ∷ []
     → new.log.ends ≡ old.log.ends ++ length new.log.lines ∷ []
     → new.words ≡ old.words ++ word ∷ []
     → MakesStep r old new
-makes_step r old new e word makeable is small did x present initial draws number phase count lines ends words =
-    let told : Retired = record { effect = e; next = new.pc } in
-    let plain = request_retires r old.number old.pc word (λ q. slice_index old.x q) makeable is in
-    let same : plain.0 ≡ told = same_result plain.0 told (retired old.number old.pc old.pc word (λ q. Some (slice_index old.x q))) plain.1 did in
-    let steps = steps_word old new e word small did x present initial draws in
+makes_step r old new e word a b makeable is small in_it is_m rs1 rs2 did present initial draws phase count lines ends words =
+    let w : Went old new e word (behind old.hart.pc) = went old new e word (behind old.hart.pc) _ small in_it
+    (request_steps r old.hart word a b makeable is_m (own_word_told old.hart.pc word in_it small) is rs1 rs2) did present initial draws in
     record {
       effect = e;
-      word = subst (λ w. decoded w ≡ Some (asked r)) steps.0 is;
-      next = sym (ap (λ (q : Retired). q.next) same) ∙ plain.2;
-      steps = steps.1;
-      lines = lines;
+      word = subst (λ n. decoded n ≡ Some (asked r)) w.of_word is;
+      next = w.pc;
+      steps = w.steps;
+      lines = lines ∙ ap (λ h. old.log.lines ++ made e ∷ done h old.done ∷ []) w.number;
       ends = ends;
-      words = words ∙ ap (λ w. old.words ++ w ∷ []) steps.0;
-      number = number;
+      words = words ∙ ap (λ n. old.words ++ n ∷ []) w.of_word;
+      number = w.number;
       phase = phase;
       count = count;
     }
 
 pub makes_end : (old new : TaskSeen) (e : Effect)
-    → slice_index old.x 0 ≡ 0 → old.pc % 4 ≡ 0 → old.pc < 2 ^ 64
-    → retired old.number old.pc old.pc end_word (λ q. Some (slice_index old.x q)) ≡ Some (record { effect = e; next = new.pc })
-    → (λ q. slice_index new.x q) ≡ with_write (λ q. slice_index old.x q) e.rd
-    → new.present ≡ with_present old.present e.rd → new.initial ≡ old.initial → new.draws ≡ old.draws
-    → new.number ≡ old.number → new.phase ≡ tasks.Finished → new.done ≡ old.done
+    → old.hart.x 0 ≡ Some 0 → old.hart.pc % 4 ≡ 0 → old.hart.pc < 2 ^ 64 → IsTrue (in_ram old.hart.pc 4) → old.hart.mode ≡ M
+    → step (word_seen old.hart.pc end_word) old.hart ≡ Some (record { effect = e; hart = new.hart })
+    → new.present ≡ with_write old.present e.rd → new.initial ≡ old.initial → new.draws ≡ old.draws
+    → new.phase ≡ tasks.Finished → new.done ≡ old.done
     → new.log.lines ≡ old.log.lines ++ ending e ∷ []
     → new.log.ends ≡ old.log.ends ++ length new.log.lines ∷ []
     → new.words ≡ old.words ++ end_word ∷ []
     → MakesEnd old new
-makes_end old new e zero aligned small did x present initial draws number phase count lines ends words =
-    let plain : Retired = record { effect = end_effect old.number old.pc; next = old.pc } in
-    let told : Retired = record { effect = e; next = new.pc } in
-    let same : plain ≡ told = same_result plain told (retired old.number old.pc old.pc end_word (λ q. Some (slice_index old.x q)))
-    (end_retires old.number old.pc (λ q. Some (slice_index old.x q)) aligned small (ap Some zero)) did in
-    let steps = steps_word old new e end_word (lit< tt) did x present initial draws in
+makes_end old new e is_zero aligned small in_it is_m did present initial draws phase count lines ends words =
+    let w : Went old new e end_word old.hart.pc = went old new e end_word old.hart.pc None (lit< tt) in_it
+    (end_steps old.hart is_m (own_word_told old.hart.pc end_word in_it (lit< tt)) aligned small is_zero) did present initial draws in
     record {
       effect = e;
-      word = sym steps.0;
-      next = sym (ap (λ (q : Retired). q.next) same);
-      steps = steps.1;
+      word = w.told;
+      next = w.pc;
+      steps = w.steps;
       lines = lines;
       ends = ends;
-      words = words ∙ ap (λ w. old.words ++ w ∷ []) steps.0;
-      number = number;
+      words = words ∙ ap (λ n. old.words ++ n ∷ []) w.of_word;
+      number = w.number;
       phase = phase;
       count = count;
     }
@@ -155,41 +179,12 @@ seen_with t w = record t {
   words = w.words;
 }
 
-pub fixes_source : (register : ℕ) (old : TaskSeen) (new : TaskSeen) (value : ℕ) (lines : List Line)
-    → old.present register ≡ None → old.initial register ≡ None
-    → value ≡ word_of old.draws.seed old.draws.stream old.draws.drawn → value < 2 ^ 64
-    → (λ q. slice_index new.x q) ≡ updated (λ q. slice_index old.x q) register value
-    → new ≡ record old {
-      x = new.x;
-      draws = record { seed = old.draws.seed; stream = old.draws.stream; drawn = old.draws.drawn + 1 };
-      initial = updated old.initial register (Some value);
-      present = updated old.present register (Some value);
-      log = record { lines = lines; ends = old.log.ends };
-    }
-    → lines ≡ old.log.lines ++ fixed old.number register value ∷ []
-    → FixesSource register old new
-fixes_source register old new value lines untouched first drawn small x task are = record {
-  untouched = untouched;
-  first = first;
-  value = value;
-  drawn = drawn;
-  small = small;
-  x = x;
-  task = task ∙ ap (λ ls. record old {
-    x = new.x;
-    draws = record { seed = old.draws.seed; stream = old.draws.stream; drawn = old.draws.drawn + 1 };
-    initial = updated old.initial register (Some value);
-    present = updated old.present register (Some value);
-    log = record { lines = ls; ends = old.log.ends };
-  }) are;
-}
-
 -- a source that is read adds lines to an event, and changes neither hart, count nor seed
 record Reading (old new : TaskSeen) : Type 0 where
   pub lines : List Line
   pub added : new.log.lines ≡ old.log.lines ++ lines
   pub ends : new.log.ends ≡ old.log.ends
-  pub number : new.number ≡ old.number
+  pub number : new.hart.number ≡ old.hart.number
   pub seed : new.draws.seed ≡ old.draws.seed
   pub count : new.done ≡ old.done
 
@@ -198,25 +193,38 @@ reading register old new (inl r) = record {
   lines = [];
   added = ap (λ (t : TaskSeen). t.log.lines) r.1 ∙ sym (append-nil old.log.lines);
   ends = ap (λ (t : TaskSeen). t.log.ends) r.1;
-  number = ap (λ (t : TaskSeen). t.number) r.1;
+  number = ap (λ (t : TaskSeen). t.hart.number) r.1;
   seed = ap (λ (t : TaskSeen). t.draws.seed) r.1;
   count = ap (λ (t : TaskSeen). t.done) r.1;
 }
 reading register old new (inr f) = record {
-  lines = fixed old.number register f.value ∷ [];
+  lines = fixed old.hart.number register f.value ∷ [];
   added = ap (λ (t : TaskSeen). t.log.lines) f.task;
   ends = ap (λ (t : TaskSeen). t.log.ends) f.task;
-  number = ap (λ (t : TaskSeen). t.number) f.task;
+  number = ap (λ (t : TaskSeen). t.hart.number) f.task;
   seed = ap (λ (t : TaskSeen). t.draws.seed) f.task;
   count = ap (λ (t : TaskSeen). t.done) f.task;
 }
+
+-- nor its mode and its pc
+pub ready : (a b : ℕ) (old first second : TaskSeen) → ReadsSource a old first → ReadsSource b first second → old.hart.mode ≡ M → IsTrue (in_ram old.hart.pc 4)
+    → (second.hart.mode ≡ M) × IsTrue (in_ram second.hart.pc 4)
+ready a b old first second once again is_m in_it =
+    let f = keeps a old first once in
+    let s = keeps b first second again in
+    (s.0 ∙ f.0 ∙ is_m, subst (λ pc. IsTrue (in_ram pc 4)) (sym (s.1 ∙ f.1)) in_it)
+  where
+    keeps : (register : ℕ) (before behind : TaskSeen) → ReadsSource register before behind
+        → (behind.hart.mode ≡ before.hart.mode) × (behind.hart.pc ≡ before.hart.pc)
+    keeps register before behind (inl r) = (ap (λ (t : TaskSeen). t.hart.mode) r.1, ap (λ (t : TaskSeen). t.hart.pc) r.1)
+    keeps register before behind (inr f) = (ap (λ (t : TaskSeen). t.hart.mode) f.task, ap (λ (t : TaskSeen). t.hart.pc) f.task)
 
 pub makes_word : (r : Request) (old first second new : TaskSeen) → ReadsSource (asked r).ops.rs1 old first → ReadsSource (asked r).ops.rs2 first second
     → MakesStep r second new → MakesWord r old new
 makes_word r old first second new rs1 rs2 m =
     let a = reading (asked r).ops.rs1 old first rs1 in
     let b = reading (asked r).ops.rs2 first second rs2 in
-    let step : List Line = made m.effect ∷ done second.number second.done ∷ [] in
+    let step : List Line = made m.effect ∷ done second.hart.number second.done ∷ [] in
     record {
       first = first;
       second = second;

@@ -1,198 +1,229 @@
 -- A step of a word that memory tells.
-use Rattle.std.proofs.Common.{ℕ, ◌+◌, ◌-◌, ◌&&◌, Bool, leb, ltb, get_or, rules, ◌%◌, ◌^◌, ◌<◌, ◌≡◌, true, false, cond, eqb, eq-eqb, [], Option, Some, None, inl, inr, refl, sym, ap, subst, ◌∙◌, arith}
+use Rattle.std.proofs.Common.{ℕ, zero, suc, ◌+◌, ◌-◌, ◌&&◌, Bool, leb, ltb, get_or, rules, ◌%◌, ◌^◌, ◌<◌, ◌≡◌, true, false, cond, eqb, eq-eqb, List, [], ◌∷◌, Option, Some, None, inl, inr, refl, sym, ap, subst, ◌∙◌, arith}
 use Rattle.std.specs.Int.{w32, to_le_bytes}
+use Rattle.std.specs.Prelude.{IsSome, IsTrue, is_none, pos}
+use Rattle.std.specs.List.{AllByRecursion}
+use Rattle.std.specs.Option.{option_map_or}
+use Rattle.std.proofs.lemmas.Bool.{ne_eqb}
 use Rattle.std.proofs.lemmas.Bool.Decides.{nat_tests}
-use Rattle.rv_fields.proofs.Told.{told_word}
-use Rattle.hart_task.specs.Bus.{word_seen}
-use Rattle.std.specs.Prelude.{IsTrue, IsSome, is_none}
-use Rattle.rv_fields.specs.declared.row_table.Ins.TheVariants.{Addi, Add}
+use Rattle.rv_fields.specs.declared.mode.Mode.TheVariants.{M}
+use Rattle.rv_fields.specs.declared.row_table.Ins.{Ins}
+use Rattle.rv_fields.specs.declared.row_table.Ins.TheVariants.{Addi, Add, Jal}
 use Rattle.rv_fields.specs.Attempt.{◌>>=◌}
-use Rattle.rv_fields.specs.Decode.{Decoded, decoded, ins_at}
+use Rattle.rv_fields.specs.Class.{class_of}
+use Rattle.rv_fields.specs.Decode.{Decoded, decoded, rs1_read, sources, ins_at}
+use Rattle.rv_fields.specs.Effect.{Effect, Entry}
+use Rattle.rv_fields.specs.Hart.{Hart, Registers}
+use Rattle.rv_fields.specs.Laws.{Below, TellsMore, TellsEach, with_registers, from_registers}
+use Rattle.rv_fields.specs.Meaning.{computed}
 use Rattle.rv_fields.specs.Memory.{Seen, told, in_ram}
-use Rattle.rv_fields.specs.Effect.{Effect}
-use Rattle.rv_fields.specs.Step.{Hart, outcome, Retired, Stepped, behind, write_of, retired, step, with_write}
+use Rattle.rv_fields.specs.Step.{Outcome, Stepped, behind, fetch_walked, goes, jump, outcome_by, raises, rd_written, retires, step, stepped_by, trap_taken, traps, with_write, write_of}
+use Rattle.rv_fields.specs.Sv39.{Walked, reached}
+use Rattle.rv_fields.proofs.Course.{Course, unreached, lacks_word, undecoded, executes, course, retraced}
+use Rattle.rv_fields.proofs.Enough.{enough_told}
+use Rattle.rv_fields.proofs.Opened.{step_leaves, word_stepped}
+use Rattle.rv_fields.proofs.Told.{told_word}
 use Rattle.region_plan.specs.declared.request.Request.{Request}
 use Rattle.region_plan.specs.declared.request.Request.TheVariants as requests
 use Rattle.region_plan.specs.Rules.{IsMakeable}
-use Rattle.hart_task.specs.Machine.{with_present, asked}
+use Rattle.hart_task.specs.Answering.{end_word}
+use Rattle.hart_task.specs.Bus.{word_seen}
+use Rattle.rv_step.specs.Frames.{HasRoom, HasRoomForStep}
+use Rattle.hart_task.specs.Machine.{HartState, StepsAt, StepsPlainly, asked, effect_word, hart_after, plain_effect, step_of}
 
--- the hart after a step that retires
-abbrev pub hart_after : Hart → Retired → Hart
-hart_after hart r = record { number = hart.number; pc = r.next; x = with_write hart.x r.effect.rd }
+-- ---- a word alone in memory is told
 
-abbrev pub stepped_of : Hart → Retired → Stepped
-stepped_of hart r = record { effect = r.effect; hart = hart_after hart r }
-
--- what retires at the hart's pc
-abbrev pub retired_at : Hart → ℕ → Option Retired
-retired_at hart word = retired hart.number hart.pc hart.pc word (λ q. Some (hart.x q))
-
-pub step_retired : (seen : Seen) (hart : Hart) (word : ℕ) → told seen hart.pc 4 ≡ Some (Some word)
-    → step seen hart ≡ (retired_at hart word >>= λ r. Some (stepped_of hart r))
-unfolding step
-step_retired seen hart word t = rw t refl
-
-pub step_told : (seen : Seen) (hart : Hart) (word : ℕ) (r : Retired) → told seen hart.pc 4 ≡ Some (Some word)
-    → retired_at hart word ≡ Some r → step seen hart ≡ Some (record { effect = r.effect; hart = hart_after hart r })
-step_told seen hart word r t e = step_retired seen hart word t ∙ ap (λ m. m >>= λ q. Some (stepped_of hart q)) e
-
--- a word that retires is a step
-pub is_step : (seen : Seen) (hart : Hart) (word : ℕ) → told seen hart.pc 4 ≡ Some (Some word) → IsSome (retired_at hart word) → IsSome (step seen hart)
-is_step seen hart word t some = subst IsSome (sym (step_retired seen hart word t)) (kept (retired_at hart word) some)
-  where
-    kept : (m : Option Retired) → IsSome m → IsSome {T = Stepped} (m >>= λ r. Some (stepped_of hart r))
-    kept None s = s
-    kept (Some r) s = s
-
--- what such a step did is what retired
-pub record Did (hart : Hart) (word : ℕ) (e : Effect) (after : Hart) : Type 0 where
-  pub retires : retired_at hart word ≡ Some (record { effect = e; next = after.pc })
-  pub x : after.x ≡ with_write hart.x e.rd
-  pub number : after.number ≡ hart.number
-
-pub did : (seen : Seen) (hart : Hart) (word : ℕ) (e : Effect) (after : Hart) → told seen hart.pc 4 ≡ Some (Some word)
-    → step seen hart ≡ Some (record { effect = e; hart = after }) → Did hart word e after
-did seen hart word e after t s = of (retired_at hart word) refl (sym (step_retired seen hart word t) ∙ s)
-  where
-    of : (m : Option Retired) → m ≡ retired_at hart word
-        → (m >>= λ r. Some (stepped_of hart r)) ≡ Some (record { effect = e; hart = after }) → Did hart word e after
-    of None is h = absurd cc
-    of (Some r) is h =
-        let all : stepped_of hart r ≡ record { effect = e; hart = after } = cc in
-        let effect : r.effect ≡ e = ap (λ (q : Stepped). q.effect) all in
-        let hart_is : hart_after hart r ≡ after = ap (λ (q : Stepped). q.hart) all in
-        let next : r.next ≡ after.pc = ap (λ (k : Hart). k.pc) hart_is in
-        record {
-          retires = sym is ∙ ap Some (same r effect next);
-          x = sym (ap (λ (k : Hart). k.x) hart_is) ∙ ap (λ (f : Effect). with_write hart.x f.rd) effect;
-          number = sym (ap (λ (k : Hart). k.number) hart_is);
-        }
-      where
-        same : (q : Retired) → q.effect ≡ e → q.next ≡ after.pc → q ≡ record { effect = e; next = after.pc }
-        same q p n = λ i. record { effect = p i; next = n i }
-
--- a word alone in memory is told
 is_true : (b : Bool) → IsTrue b → b ≡ true
 is_true true h = refl
 is_true false h = absurd (search rules)
 
-pub own_word_told : (at word : ℕ) → IsTrue (in_ram at 4) → word < 2 ^ 32 → told (word_seen at word) at 4 ≡ Some (Some word)
-own_word_told at word in_it small = told_word (word_seen at word) at word (is_true (in_ram at 4) in_it) small (λ j below.
+abbrev pub TellsOwn : ℕ → ℕ → Type 0
+TellsOwn at word = told (word_seen at word).byte at 4 ≡ Some (Some word)
+
+pub own_word_told : (at word : ℕ) → IsTrue (in_ram at 4) → word < 2 ^ 32 → TellsOwn at word
+own_word_told at word in_it small = told_word (word_seen at word).byte at word (is_true (in_ram at 4) in_it) small (λ j below.
     let inside : leb at (at + j) && ltb (at + j) (at + 4) ≡ true = grind (arith, nat_tests) in
     let index : at + j - at ≡ j = omega arith in
     ap (λ b. cond b (Some (get_or (to_le_bytes w32 word) (at + j - at) 0)) None) inside ∙ ap (λ i. Some (get_or (to_le_bytes w32 word) i 0)) index)
 
--- ---- a step that retires: whose it is, and what it writes
+-- ---- the words that a hart in mode M makes
 
-found : {A B : Type 0} (m : Option A) (f : A → Option B) (y : B) → (m >>= f) ≡ Some y → (a : A) × (m ≡ Some a) × (f a ≡ Some y)
-found None f y h = absurd cc
-found (Some a) f y h = (a, refl, h)
+-- in mode M nothing is translated
+fetched_bare : (seen : Seen) (hart : Hart) → hart.mode ≡ M → fetch_walked seen hart ≡ Some (record { trail = []; result = reached hart.pc })
+fetched_bare seen hart is_m = rw is_m refl
 
--- what a step does that leaves memory alone, and takes no trap
-abbrev pub plain_effect : ℕ → ℕ → ℕ → ℕ → Option (ℕ × ℕ) → Effect
-plain_effect h pc pa word rd = record {
-  hart = h;
-  pc = pc;
-  pa = pa;
-  word = word;
-  rd = rd;
-  access = None;
-  trail = [];
-  trap = None;
-}
+-- a step that leaves memory alone, takes no trap, and goes on at the address
+abbrev pub plain_step : Hart → ℕ → Option (ℕ × ℕ) → ℕ → Stepped
+plain_step hart word rd next = record { effect = plain_effect hart word rd; hart = record hart { pc = next; x = with_write hart.x rd } }
 
--- the effect's hart, physical address and word are those of the step, and it writes a register as any instruction does
-pub record IsOf (h place word : ℕ) (r : Retired) : Type 0 where
-  pub hart : r.effect.hart ≡ h
-  pub pa : r.effect.pa ≡ place
-  pub word_is : r.effect.word ≡ word
-  pub register : ℕ
-  pub value : ℕ
-  pub rd : r.effect.rd ≡ write_of register value
+-- an instruction whose sources are told
+executed : (hart : Hart) (word : ℕ) (d : Decoded) (a b : ℕ) (o : Outcome) → hart.mode ≡ M → TellsOwn hart.pc word → decoded word ≡ Some d
+    → hart.x (rs1_read d) ≡ Some a → hart.x d.ops.rs2 ≡ Some b → outcome_by (class_of d.ins) (word_seen hart.pc word) hart d word a b ≡ Some o
+    → step (word_seen hart.pc word) hart ≡ Some (stepped_by hart hart.pc word d.ops.rd o)
+executed hart word d a b o is_m tells is rs1 rs2 gives =
+    let seen : Seen = word_seen hart.pc word in
+    retraced seen hart _ (executes [] hart.pc word d a b o (fetched_bare seen hart is_m) tells is rs1 rs2 gives)
 
-pub effect_is_of : (h pc pa word : ℕ) (registers : ℕ → Option ℕ) (r : Retired) → retired h pc pa word registers ≡ Some r → IsOf h pa word r
-unfolding retired
-effect_is_of h pc pa word registers r e =
-    let d = found (decoded word) _ r e in
-    let a = found (registers d.0.ops.rs1) _ r d.2 in
-    let b = found (registers d.0.ops.rs2) _ r a.2 in
-    let o = found (outcome d.0.ins d.0.ops pc a.0 b.0) _ r b.2 in
-    let is : (record { effect = plain_effect h pc pa word (write_of d.0.ops.rd o.0.value); next = o.0.next }) ≡ r = cc in
-    record {
-      hart = sym (ap (λ (q : Retired). q.effect.hart) is);
-      pa = sym (ap (λ (q : Retired). q.effect.pa) is);
-      word_is = sym (ap (λ (q : Retired). q.effect.word) is);
-      register = d.0.ops.rd;
-      value = o.0.value;
-      rd = sym (ap (λ (q : Retired). q.effect.rd) is);
-    }
+-- the step of a request that can be made
+abbrev pub request_step : Request → Hart → ℕ → ℕ → ℕ → Stepped
+request_step r hart word a b =
+    plain_step hart word (write_of (asked r).ops.rd (computed (asked r).ins (asked r).ops hart.pc a b)) (behind hart.pc)
 
-pub rd_is_write : (h pc pa word : ℕ) (registers : ℕ → Option ℕ) (r : Retired) → retired h pc pa word registers ≡ Some r
-    → (register : ℕ) × (value : ℕ) × (r.effect.rd ≡ write_of register value)
-rd_is_write h pc pa word registers r e = let w = effect_is_of h pc pa word registers r e in (w.register, w.value, w.rd)
+pub request_steps : (r : Request) (hart : Hart) (word a b : ℕ) → IsMakeable r → hart.mode ≡ M → TellsOwn hart.pc word → decoded word ≡ Some (asked r)
+    → hart.x (asked r).ops.rs1 ≡ Some a → hart.x (asked r).ops.rs2 ≡ Some b
+    → step (word_seen hart.pc word) hart ≡ Some (request_step r hart word a b)
+request_steps (requests.Ins ins pins) hart word a b makeable is_m tells is rs1 rs2 = by makeable
+  where
+    Steps : Ins → Type 0
+    Steps i = decoded word ≡ Some (asked (requests.Ins i pins))
+        → step (word_seen hart.pc word) hart ≡ Some (request_step (requests.Ins i pins) hart word a b)
+
+    of_addi : Steps Addi
+    of_addi e = executed hart word (asked (requests.Ins Addi pins)) a b _ is_m tells e rs1 rs2 refl
+
+    of_add : Steps Add
+    of_add e = executed hart word (asked (requests.Ins Add pins)) a b _ is_m tells e rs1 rs2 refl
+
+    by : IsMakeable (requests.Ins ins pins) → step (word_seen hart.pc word) hart ≡ Some (request_step (requests.Ins ins pins) hart word a b)
+    by (inl addi) = subst Steps (sym addi.0) of_addi is
+    by (inr add) = subst Steps (sym add.0) of_add is
+
+-- what the ending word says
+abbrev pub end_jump : Decoded
+end_jump = record { ins = Jal; ops = record { rd = 0; rs1 = 0; rs2 = 0; imm = pos 0; aqrl = 0 } }
+
+pub end_decoded : decoded end_word ≡ Some end_jump
+unfolding ins_at
+end_decoded = refl
+
+abbrev pub end_step : Hart → Stepped
+end_step hart = plain_step hart end_word None hart.pc
+
+pub end_steps : (hart : Hart) → hart.mode ≡ M → TellsOwn hart.pc end_word → hart.pc % 4 ≡ 0 → hart.pc < 2 ^ 64 → hart.x 0 ≡ Some 0
+    → step (word_seen hart.pc end_word) hart ≡ Some (end_step hart)
+end_steps hart is_m tells aligned small is_zero =
+    let same : (hart.pc + 0) % 2 ^ 64 ≡ hart.pc = omega arith in
+    let test : eqb (hart.pc % 4) 0 ≡ true = eq-eqb (hart.pc % 4) 0 aligned in
+    executed hart end_word end_jump 0 0 (goes hart (Some (behind hart.pc)) hart.pc) is_m tells end_decoded is_zero is_zero
+    (ap (λ t. Some (jump hart (Some (behind hart.pc)) t)) same
+    ∙ ap (λ b. Some (cond b (goes hart (Some (behind hart.pc)) hart.pc) (traps 0 hart.pc))) test)
+
+-- ---- registers of which less is told
+
+one : {A : Type 0} (a b : A) → Some a ≡ Some b → a ≡ b
+one a b e = cc
+
+none_some : {A : Type 0} (a : A) → None ≡ Some a → ⊥
+none_some a e = cc
+
+-- Over other registers that tell what the word reads, a plain step is the same.
+pub alike : (hart : Hart) (word : ℕ) (d : Decoded) (s : Stepped) (x : Registers) → hart.mode ≡ M → TellsOwn hart.pc word → decoded word ≡ Some d
+    → s.effect ≡ plain_effect hart word s.effect.rd → step (word_seen hart.pc word) hart ≡ Some s
+    → Below (hart.x (rs1_read d)) (x (rs1_read d)) → Below (hart.x d.ops.rs2) (x d.ops.rs2)
+    → step (word_seen hart.pc word) (with_registers x hart) ≡ Some (from_registers x s)
+alike hart word d s x is_m tells is plain does rs1 rs2 = enough_told seen hart s seen x does (record {
+  fetch = λ w e. (
+      let none = one _ w (sym (fetched_bare seen hart is_m) ∙ e) in
+      subst (λ (q : Walked). TellsEach seen.byte q.trail) none tt);
+  word = λ pa w at has. (
+      let place = one hart.pc pa (sym (ap (λ (e : Effect). e.pa) plain) ∙ at) in
+      let same = one word w (sym (ap (λ (e : Effect). e.word) plain) ∙ has) in
+      subst (λ p. told seen.byte p 4 ≡ Some (Some w)) place (subst (λ n. told seen.byte hart.pc 4 ≡ Some (Some n)) same tells));
+  trail = subst (λ (trail : List Entry). TellsEach seen.byte trail) (sym (ap (λ (e : Effect). e.trail) plain)) tt;
+  read = λ a n has reads. absurd (none_some a (sym (ap (λ (e : Effect). e.access) plain) ∙ has));
+  link = λ w k size extended r has row sc reserves b e. e;
+  registers = λ w k has row. (
+      let same : d ≡ k = of_word w k has row in
+      subst (λ q. AllByRecursion (λ r. Below (hart.x r) (x r)) (sources q)) same (both (eqb (rs1_read d) d.ops.rs2)));
+})
+  where
+    seen : Seen
+    seen = word_seen hart.pc word
+
+    both : (b : Bool) → AllByRecursion (λ r. Below (hart.x r) (x r)) (cond b (rs1_read d ∷ []) (rs1_read d ∷ d.ops.rs2 ∷ []))
+    both true = (rs1, tt)
+    both false = (rs1, (rs2, tt))
+
+    of_word : (w : ℕ) (k : Decoded) → s.effect.word ≡ Some w → decoded w ≡ Some k → d ≡ k
+    of_word w k has row =
+        let same = one word w (sym (ap (λ (e : Effect). e.word) plain) ∙ has) in
+        one d k (sym is ∙ ap decoded same ∙ row)
+
+-- what a step reads is told
+pub sources_told : (seen : Seen) (hart : Hart) (s : Stepped) (d : Decoded) → step seen hart ≡ Some s → (s.effect.word >>= decoded) ≡ Some d
+    → (is_none (hart.x (rs1_read d)) ≡ false) × (is_none (hart.x d.ops.rs2) ≡ false)
+unfolding trap_taken
+sources_told seen hart s d does reads = by s (course seen hart s does) reads
+  where
+    by : (q : Stepped) → Course seen hart q → (q.effect.word >>= decoded) ≡ Some d → (is_none (hart.x (rs1_read d)) ≡ false) × (is_none (hart.x d.ops.rs2) ≡ false)
+    by q (unreached trail cause fetched) e = absurd cc
+    by q (lacks_word trail pa fetched has) e = absurd cc
+    by q (undecoded trail pa word fetched has is) e = absurd cc
+    by q (executes trail pa word k a b o fetched has is rs1 rs2 gives) e =
+        let row : decoded word ≡ Some d = ap (λ w. w >>= decoded) (sym (word_stepped hart pa word k.ops.rd o)) ∙ e in
+        let same = one k d (sym is ∙ row) in (
+          ap (λ (i : Decoded). is_none (hart.x (rs1_read i))) (sym same) ∙ ap is_none rs1,
+          ap (λ (i : Decoded). is_none (hart.x i.ops.rs2)) (sym same) ∙ ap is_none rs2,
+        )
+
+-- x0 is never written
+pub zero_kept : (x : Registers) (seen : Seen) (hart : Hart) (s : Stepped) → step seen hart ≡ Some s → with_write x s.effect.rd 0 ≡ x 0
+unfolding trap_taken
+zero_kept x seen hart s does = by s (course seen hart s does)
+  where
+    other : (rd v : ℕ) → with_write x (write_of rd v) 0 ≡ x 0
+    other zero v = refl
+    other (suc rd) v = ap (λ b. cond b (Some v) (x 0)) (ne_eqb 0 (suc rd) (λ same. omega arith))
+
+    written : (rd : ℕ) (value : Option ℕ) → with_write x (rd_written rd value) 0 ≡ x 0
+    written rd None = refl
+    written rd (Some v) = other rd v
+
+    left : (k : Hart) (pa word rd : ℕ) (o : Outcome) → with_write x (stepped_by k pa word rd o).effect.rd 0 ≡ x 0
+    left k pa word rd (retires done) = written rd done.value
+    left k pa word rd (raises cause tval trail) = refl
+
+    by : (q : Stepped) → Course seen hart q → with_write x q.effect.rd 0 ≡ x 0
+    by q (unreached trail cause fetched) = refl
+    by q (lacks_word trail pa fetched has) = refl
+    by q (undecoded trail pa word fetched has is) = refl
+    by q (executes trail pa word k a b o fetched has is rs1 rs2 gives) = left hart pa word k.ops.rd o
 
 -- ---- registers that are told, and the same before and after a write
 
--- the values are those that are told
-abbrev pub Extends : (ℕ → ℕ) → (ℕ → Option ℕ) → Type 0
-Extends x registers = (r v : ℕ) → registers r ≡ Some v → x r ≡ v
+pub below_back : {A : Type 0} (m n : Option A) (a : A) → m ≡ Some a → Below m n → Below n m
+below_back m n a is more v e = is ∙ sym (more a is) ∙ e
 
-pub extends_write : (x : ℕ → ℕ) (registers : ℕ → Option ℕ) (w : Option (ℕ × ℕ)) → Extends x registers
-    → Extends (with_write x w) (with_present registers w)
-extends_write x registers None h = h
-extends_write x registers (Some w) h = λ r v. at (eqb r w.0) r v
+pub more_written : (x y : Registers) (w : Option (ℕ × ℕ)) → TellsMore x y → TellsMore (with_write x w) (with_write y w)
+more_written x y None more = more
+more_written x y (Some w) more = λ r v. at (eqb r w.0) r v
   where
-    at : (b : Bool) (r v : ℕ) → cond b (Some w.1) (registers r) ≡ Some v → cond b w.1 (x r) ≡ v
-    at true r v e = cc
-    at false r v e = h r v e
+    at : (b : Bool) (r v : ℕ) → cond b (Some w.1) (x r) ≡ Some v → cond b (Some w.1) (y r) ≡ Some v
+    at true r v e = e
+    at false r v e = more r v e
 
--- ---- the words that a hart makes retire
+-- ---- a plain step is told, takes no room, and is what its line tells
 
--- A step asks the sources of its word alone.
-pub retired_alike : (h pc pa word : ℕ) (d : Decoded) (registers others : ℕ → Option ℕ) → decoded word ≡ Some d
-    → registers d.ops.rs1 ≡ others d.ops.rs1 → registers d.ops.rs2 ≡ others d.ops.rs2
-    → retired h pc pa word registers ≡ retired h pc pa word others
-unfolding retired
-retired_alike h pc pa word d registers others is rs1 rs2 = rw is (rw rs1 (rw rs2 refl))
+pub plain_told : (hart : Hart) (word : ℕ) → StepsPlainly hart word → IsSome (step (word_seen hart.pc word) hart)
+plain_told hart word p = subst IsSome (sym p.steps) refl
 
--- a step that goes on behind its word
-abbrev pub GoesOn : ℕ → Option Retired → Type 0
-GoesOn pc m = (q : Retired) × (m ≡ Some q) × (q.next ≡ behind pc)
+pub plain_room : (room : ℕ → Type 0) (hart : Hart) (word : ℕ) → StepsPlainly hart word → HasRoomForStep room (step (word_seen hart.pc word) hart)
+plain_room room hart word p =
+    subst (HasRoomForStep room) (sym p.steps) (subst (HasRoom room) (sym (ap (λ (e : Effect). e.access) p.plain)) tt)
 
--- what the ending step does
-abbrev pub end_effect : ℕ → ℕ → Effect
-end_effect h pc = plain_effect h pc pc 0x6f None
+pub plain_is : (hart : Hart) (word : ℕ) (s : Stepped) → StepsPlainly hart word → step (word_seen hart.pc word) hart ≡ Some s
+    → s.effect ≡ plain_effect hart word s.effect.rd
+plain_is hart word s p does =
+    subst (λ (q : Stepped). q.effect ≡ plain_effect hart word q.effect.rd) (one p.stepped s (sym p.steps ∙ does)) p.plain
 
-pub end_retires : (h pc : ℕ) (registers : ℕ → Option ℕ) → pc % 4 ≡ 0 → pc < 2 ^ 64 → registers 0 ≡ Some 0
-    → retired h pc pc 0x6f registers ≡ Some (record { effect = end_effect h pc; next = pc })
-unfolding retired ins_at
-end_retires h pc registers aligned small zero =
-    let same : (pc + 0) % 2 ^ 64 ≡ pc = omega arith in
-    let test : eqb ((pc + 0) % 2 ^ 64 % 4) 0 ≡ true = eq-eqb ((pc + 0) % 2 ^ 64 % 4) 0 (ap (λ n. n % 4) same ∙ aligned) in
-    rw zero (rw test (ap (λ n. Some (record { effect = end_effect h pc; next = n })) same))
+-- ---- what a legal step leaves of the hart
 
-pub request_retires : (r : Request) (h pc word : ℕ) (x : ℕ → ℕ) → IsMakeable r → decoded word ≡ Some (asked r)
-    → GoesOn pc (retired h pc pc word (λ q. Some (x q)))
-unfolding retired
-request_retires (requests.Ins ins pins) h pc word x (inl addi) is =
-    let as_addi : decoded word ≡ Some (asked (requests.Ins Addi pins)) = is ∙ ap (λ i. Some (asked (requests.Ins i pins))) addi.0 in
-    rw as_addi (_, refl, refl)
-request_retires (requests.Ins ins pins) h pc word x (inr add) is =
-    let as_add : decoded word ≡ Some (asked (requests.Ins Add pins)) = is ∙ ap (λ i. Some (asked (requests.Ins i pins))) add.0 in
-    rw as_add (_, refl, refl)
-
--- the sources of a step have values
-pub sources_told : (h pc pa word : ℕ) (d : Decoded) (registers : ℕ → Option ℕ) (r : Retired) → retired h pc pa word registers ≡ Some r → decoded word ≡ Some d
-    → (is_none (registers d.ops.rs1) ≡ false) × (is_none (registers d.ops.rs2) ≡ false)
-unfolding retired
-sources_told h pc pa word d registers r e is =
-    let read = found (decoded word) _ r e in
-    let first = found (registers read.0.ops.rs1) _ r read.2 in
-    let second = found (registers read.0.ops.rs2) _ r first.2 in
-    let same : read.0 ≡ d = one (decoded word) read.0 d read.1 is in (
-      ap (λ (q : Decoded). is_none (registers q.ops.rs1)) (sym same) ∙ ap is_none first.1,
-      ap (λ (q : Decoded). is_none (registers q.ops.rs2)) (sym same) ∙ ap is_none second.1,
-    )
+pub number_after : (s : HartState) (word : ℕ) → (hart_after s word).number ≡ s.machine.number
+number_after s word = of (step_of s word) refl
   where
-    one : (m : Option Decoded) (a b : Decoded) → m ≡ Some a → m ≡ Some b → a ≡ b
-    one m a b p q = cc
+    of : (m : Option Stepped) → m ≡ step_of s word → (option_map_or (λ (r : Stepped). r.hart) m s.machine).number ≡ s.machine.number
+    of None e = refl
+    of (Some r) e = (step_leaves (word_seen s.machine.pc word) s.machine r (sym e)).number
+
+pub registers_after : (s : HartState) (e : Effect) → StepsAt s e → (hart_after s (effect_word e)).x ≡ with_write s.machine.x e.rd
+registers_after s e at = (step_leaves (word_seen s.machine.pc (effect_word e)) s.machine _ at.effect).registers

@@ -1,24 +1,31 @@
 -- From one state of a task to the next.
 use Rattle.std.proofs.Common.{ℕ, ◌+◌, ◌<◌, ◌≤◌, ◌≡◌, Bool, true, false, cond, eqb, List, [], ◌∷◌, ◌++◌, length, drop, replicate, get_or, Option, Some, None, inl, inr, refl, sym, ap, subst, ◌∙◌, arith, append_assoc, length-append, eqb-true}
-use Rattle.std.specs.Prelude.{zero, suc, slice_index, slice_get, IsSome, pos, ◌⊎◌}
+use Rattle.std.specs.Prelude.{zero, suc, slice_index, slice_get, unwrap_or, IsSome}
 use Rattle.std.proofs.lemmas.Bool.{ne_eqb, eq-eqb, cases_eq}
 use Rattle.std.specs.Option.{option_map_or, option_or}
 use Rattle.std.specs.List.{AllByRecursion}
-use Rattle.rv_fields.specs.Decode.{Decoded, decoded, ins_at, sources}
+use Rattle.rv_fields.specs.declared.mode.Mode.TheVariants.{M}
+use Rattle.rv_fields.specs.Attempt.{◌>>=◌}
+use Rattle.rv_fields.specs.CsrFile.{CsrFile}
+use Rattle.rv_fields.specs.Decode.{Decoded, decoded, rs1_read, sources}
 use Rattle.rv_fields.specs.Effect.{Effect}
-use Rattle.rv_fields.specs.Step.{Retired, retired, updated, write_of}
-use Rattle.rv_fields.specs.declared.row_table.Ins.TheVariants.{Jal}
+use Rattle.rv_fields.specs.Hart.{Hart, Registers, updated}
+use Rattle.rv_fields.specs.Laws.{TellsMore, names_open_at, names_open_in, with_registers}
+use Rattle.rv_fields.specs.Step.{Stepped, step, with_write}
+use Rattle.rv_fields.proofs.Opened.{step_leaves}
 use Rattle.region_plan.specs.declared.request.Request.{Request}
 use Rattle.region_plan.specs.Work.{Work, hart_count, template_of}
 use Rattle.choice_tree.specs.Draws.{Draws, word_of}
 use Rattle.trace_text.specs.Lines.{Line, request, fixed, made, ending, done, fixed_by, starting}
 use Rattle.world_face.specs.Runs.{Runs}
 use Rattle.boot_words.specs.Layout.{code_start, code_address}
+use Rattle.boot_words.specs.Startup.{start_csrs}
 use Rattle.hart_task.specs.declared.task.Phase.TheVariants as tasks
 use Rattle.region_plan.specs.declared.request.Request.TheVariants as requests
-use Rattle.hart_task.specs.Answering.{kind_of, stream_of, end_word, Meets}
-use Rattle.hart_task.proofs.Retiring.{retired_alike, rd_is_write, extends_write}
-use Rattle.hart_task.specs.Machine.{HartState, between, begun, stepped, finished, start, legal, after, with_begun, asked, untouched_of, Begins, Reads, Fixes, Makes, Ends, StepsAt, step_of, next_of, with_present, moved}
+use Rattle.hart_task.specs.Answering.{kind_of, stream_of, Meets}
+use Rattle.hart_task.specs.Bus.{word_seen}
+use Rattle.hart_task.proofs.Retiring.{alike, below_back, end_decoded, end_jump, more_written, own_word_told, zero_kept}
+use Rattle.hart_task.specs.Machine.{HartState, between, begun, stepped, finished, start, legal, after, with_begun, asked, untouched_of, Begins, Reads, Fixes, Makes, Ends, StepsAt, effect_word, first_hart, hart_after, moved, plain_effect, step_of, with_register}
 use Rattle.std.specs.Prelude.{Result, Ok, Err, OnOk, OnErr}
 use Rattle.rv_fields.specs.declared.memory.NoMemory.{NoMemory}
 use Rattle.region_plan.specs.Rules.{IsMakeable, KeepsRules}
@@ -26,12 +33,13 @@ use Rattle.hart_task.specs.declared.log.Turned.{Turned}
 use Rattle.hart_task.specs.declared.task.HartTask.{HartTask}
 use Rattle.hart_task.specs.Task.{task_seen, IsTaskOf, IsLogOf, Stands, TaskSeen, BeginsRequest, FixesSource, ReadsSource, StepsWord, MakesStep, MakesWord, MakesEnd, IsNext, begun_count, word_count, phase_seen}
 
-zero_register : (r v : ℕ) → cond (eqb r 0) (Some 0) None ≡ Some v → get_or (replicate 32 0) r 0 ≡ v
-zero_register r v e = at (eqb r 0) refl e
+-- x0 alone has a value at the start, and each register holds 0
+zero_held : TellsMore (updated (λ q. None) 0 (Some 0)) (λ r. Some (slice_index (replicate 32 0) r))
+zero_held r v e = at (eqb r 0) refl e
   where
-    at : (b : Bool) → b ≡ eqb r 0 → cond b (Some 0) None ≡ Some v → get_or (replicate 32 0) r 0 ≡ v
-    at true is e = let same : r ≡ 0 = eqb-true r 0 (sym is) in ap (λ q. get_or (replicate 32 0) q 0) same ∙ cc
-    at false is e = cc
+    at : (b : Bool) → b ≡ eqb r 0 → cond b (Some 0) None ≡ Some v → Some (get_or (replicate 32 0) r 0) ≡ Some v
+    at true is e = let same : r ≡ 0 = eqb-true r 0 (sym is) in ap (λ q. Some (get_or (replicate 32 0) q 0)) same ∙ e
+    at false is e = absurd cc
 
 -- sources are registers
 pub sources_small : (r : Request) → IsMakeable r → ((asked r).ops.rs1 < 32) × ((asked r).ops.rs2 < 32)
@@ -39,12 +47,10 @@ sources_small (requests.Ins ins pins) (inl addi) = (addi.1.rs1, omega (arith, ad
 sources_small (requests.Ins ins pins) (inr add) = (add.1.rs1, add.1.rs2)
 
 -- a task before its first event
-pub stands_new : (work : Work) (h pc : ℕ) (draws : Draws) (initial present : ℕ → Option ℕ) (ls : List Line) (es ws : List ℕ) → h < hart_count work → pc ≡ code_start h
-    → draws.stream ≡ stream_of h → draws.drawn ≡ 0 → initial ≡ (λ r. None) → present ≡ updated (λ r. None) 0 (Some 0) → ls ≡ [] → ws ≡ []
+pub stands_new : (work : Work) (h pc : ℕ) (csrs : CsrFile) (draws : Draws) (initial present : Registers) (ls : List Line) (es ws : List ℕ) → h < hart_count work → pc ≡ code_start h
+    → csrs ≡ start_csrs h → draws.stream ≡ stream_of h → draws.drawn ≡ 0 → initial ≡ (λ r. None) → present ≡ updated (λ r. None) 0 (Some 0) → ls ≡ [] → ws ≡ []
     → Stands work (record {
-      number = h;
-      pc = pc;
-      x = replicate 32 0;
+      hart = record { number = h; pc = pc; x = λ r. Some (slice_index (replicate 32 0) r); mode = M; csrs = csrs; reserved = None };
       phase = tasks.Between;
       done = 0;
       draws = draws;
@@ -53,15 +59,14 @@ pub stands_new : (work : Work) (h pc : ℕ) (draws : Draws) (initial present : �
       log = record { lines = ls; ends = es };
       words = ws;
     }) (start work draws.seed h)
-stands_new work h pc draws initial present ls es ws member at stream drawn nothing only no_lines no_words = record {
+stands_new work h pc csrs draws initial present ls es ws member at leaves stream drawn nothing only no_lines no_words = record {
   run = subst (λ l. Runs legal after (start work draws.seed h) l (start work draws.seed h)) (sym no_lines) refl;
-  hart = refl;
   member = member;
-  pc = sym at;
-  zero = ap (λ (f : ℕ → Option ℕ). f 0) only;
-  registers = sym only;
-  held = λ r v told. zero_register r v (sym (ap (λ (f : ℕ → Option ℕ). f r) only) ∙ told);
-  initial = λ r. ap (λ (f : ℕ → Option ℕ). f r) nothing ∙ ap (λ l. starting l h r) (sym no_lines);
+  machine = λ i. record (first_hart h) { pc = sym at i; x = sym only i; csrs = sym leaves i };
+  held = subst (λ (g : Registers). TellsMore g (λ r. Some (slice_index (replicate 32 0) r))) (sym only) zero_held;
+  zero = ap (λ (f : Registers). f 0) only;
+  mode = refl;
+  initial = λ r. ap (λ (f : Registers). f r) nothing ∙ ap (λ l. starting l h r) (sym no_lines);
   draws = λ i. record { seed = draws.seed; stream = stream i; drawn = drawn i };
   few = omega (arith, drawn);
   phase = refl;
@@ -73,6 +78,10 @@ stands_new work h pc draws initial present ls es ws member at stream drawn nothi
   made = ap length no_words;
   place = omega (arith, at);
 }
+
+-- the number of the state's hart
+number_is : (work : Work) (t : TaskSeen) (s : HartState) → Stands work t s → s.machine.number ≡ t.hart.number
+number_is work t s st = ap (λ (m : Hart). m.number) st.machine
 
 -- a run goes on by one line more
 runs_more : (old mid : HartState) (ls : List Line) (l : Line) → Runs legal after old ls mid → legal mid l → Runs legal after old (ls ++ l ∷ []) (after mid l)
@@ -109,29 +118,28 @@ drop_at (q ∷ rs) (suc i) r e =
     (more.0 ∙ ap (λ n. r ∷ drop n (q ∷ rs)) index, omega (arith, more.1))
 
 pub stands_begun : (work : Work) (old new : TaskSeen) (s : HartState) (r : Request) → Stands work old s → old.phase ≡ tasks.Between
-    → slice_get (template_of work old.number) old.done ≡ Some r → BeginsRequest r old new
-    → Stands work new (record s { left = drop (old.done + 1) (template_of work old.number); phase = begun r })
+    → slice_get (template_of work old.hart.number) old.done ≡ Some r → BeginsRequest r old new
+    → Stands work new (record s { left = drop (old.done + 1) (template_of work old.hart.number); phase = begun r })
 stands_begun work old new s r st is_between at b =
-    let template : List Request = template_of work old.number in
+    let template : List Request = template_of work old.hart.number in
     let next : (drop old.done template ≡ r ∷ drop (old.done + 1) template) × (old.done + 1 ≤ length template) = drop_at template old.done r at in
     let left : s.left ≡ r ∷ drop (old.done + 1) template = st.left ∙ ap (λ p. drop (begun_count p old.done) template) is_between ∙ next.0 in
     let phase : s.phase ≡ between = st.phase ∙ ap phase_seen is_between in
-    let line : Line = request old.number old.done (kind_of r) in
+    let line : Line = request old.hart.number old.done (kind_of r) in
     let to : HartState = record s { left = drop (old.done + 1) template; phase = begun r } in
     let begins : Begins s.phase s.left (kind_of r) =
     subst (λ p. Begins p s.left (kind_of r)) (sym phase) (subst (λ l. Begins between l (kind_of r)) (sym left) refl) in
-    let run : Runs legal after (start work old.draws.seed old.number) (old.log.lines ++ line ∷ []) (after s line) =
-    runs_more (start work old.draws.seed old.number) s old.log.lines line st.run (sym st.hart, sym st.count, begins) in
+    let run : Runs legal after (start work old.draws.seed old.hart.number) (old.log.lines ++ line ∷ []) (after s line) =
+    runs_more (start work old.draws.seed old.hart.number) s old.log.lines line st.run (sym (number_is work old s st), sym st.count, begins) in
     let there : after s line ≡ to = ap (with_begun s) left in
     subst (λ t. Stands work t to) (sym b.task) (record {
-      run = subst (λ q. Runs legal after (start work old.draws.seed old.number) (old.log.lines ++ line ∷ []) q) there run;
-      hart = st.hart;
+      run = subst (λ q. Runs legal after (start work old.draws.seed old.hart.number) (old.log.lines ++ line ∷ []) q) there run;
       member = st.member;
-      pc = st.pc;
-      zero = st.zero;
-      registers = st.registers;
+      machine = st.machine;
       held = st.held;
-      initial = λ q. st.initial q ∙ sym (starting_kept old.log.lines (line ∷ []) old.number q refl);
+      zero = st.zero;
+      mode = st.mode;
+      initial = λ q. st.initial q ∙ sym (starting_kept old.log.lines (line ∷ []) old.hart.number q refl);
       draws = st.draws;
       few = omega (arith, st.few, length-append old.log.lines (line ∷ []));
       phase = refl;
@@ -147,57 +155,43 @@ stands_begun work old new s r st is_between at b =
 -- ---- what the request's word reads gets values
 
 -- rs1 is read next where it has no value
-first_reads : (registers : ℕ → Option ℕ) (d : Decoded) → registers d.ops.rs1 ≡ None
-    → (others : List ℕ) × (untouched_of registers (sources d) ≡ d.ops.rs1 ∷ others)
-first_reads registers d none = by (eqb d.ops.rs1 d.ops.rs2)
+first_reads : (registers : Registers) (d : Decoded) → registers (rs1_read d) ≡ None
+    → (others : List ℕ) × (untouched_of registers (sources d) ≡ rs1_read d ∷ others)
+first_reads registers d none = by (eqb (rs1_read d) d.ops.rs2)
   where
-    by : (b : Bool) → (others : List ℕ) × (untouched_of registers (cond b (d.ops.rs1 ∷ []) (d.ops.rs1 ∷ d.ops.rs2 ∷ [])) ≡ d.ops.rs1 ∷ others)
+    by : (b : Bool) → (others : List ℕ) × (untouched_of registers (cond b (rs1_read d ∷ []) (rs1_read d ∷ d.ops.rs2 ∷ [])) ≡ rs1_read d ∷ others)
     by true = rw none (_, refl)
     by false = rw none (_, refl)
 
 -- rs2 is read next where it has no value, and rs1 has one
-second_reads : (registers : ℕ → Option ℕ) (d : Decoded) (v : ℕ) → registers d.ops.rs1 ≡ Some v → registers d.ops.rs2 ≡ None
+second_reads : (registers : Registers) (d : Decoded) (v : ℕ) → registers (rs1_read d) ≡ Some v → registers d.ops.rs2 ≡ None
     → (others : List ℕ) × (untouched_of registers (sources d) ≡ d.ops.rs2 ∷ others)
-second_reads registers d v some none = by (eqb d.ops.rs1 d.ops.rs2) refl
+second_reads registers d v some none = by (eqb (rs1_read d) d.ops.rs2) refl
   where
-    by : (b : Bool) → b ≡ eqb d.ops.rs1 d.ops.rs2
-        → (others : List ℕ) × (untouched_of registers (cond b (d.ops.rs1 ∷ []) (d.ops.rs1 ∷ d.ops.rs2 ∷ [])) ≡ d.ops.rs2 ∷ others)
-    by true e = absurd (let same : d.ops.rs1 ≡ d.ops.rs2 = eqb-true _ _ (sym e) in let both : registers d.ops.rs1 ≡ None = ap registers same ∙ none in cc)
+    by : (b : Bool) → b ≡ eqb (rs1_read d) d.ops.rs2
+        → (others : List ℕ) × (untouched_of registers (cond b (rs1_read d ∷ []) (rs1_read d ∷ d.ops.rs2 ∷ [])) ≡ d.ops.rs2 ∷ others)
+    by true e = absurd (let same : rs1_read d ≡ d.ops.rs2 = eqb-true _ _ (sym e) in let both : registers (rs1_read d) ≡ None = ap registers same ∙ none in cc)
     by false e = rw some (rw none (_, refl))
 
--- a register gets a value
-told_at : (f : ℕ → Option ℕ) (register value q v : ℕ) → updated f register (Some value) q ≡ Some v
-    → ((q ≡ register) × (value ≡ v)) ⊎ (f q ≡ Some v)
-told_at f register value q v = by (eqb q register) refl
-  where
-    by : (b : Bool) → b ≡ eqb q register → cond b (Some value) (f q) ≡ Some v → ((q ≡ register) × (value ≡ v)) ⊎ (f q ≡ Some v)
-    by true e told = inl (eqb-true q register (sym e), cc)
-    by false e told = inr told
+-- the instruction of a request that can be made reads rs1, and no CSR
+rs1_is : (r : Request) → IsMakeable r → rs1_read (asked r) ≡ (asked r).ops.rs1
+rs1_is (requests.Ins ins pins) (inl addi) = ap (λ i. rs1_read (asked (requests.Ins i pins))) addi.0
+rs1_is (requests.Ins ins pins) (inr add) = ap (λ i. rs1_read (asked (requests.Ins i pins))) add.0
 
--- it had none, and x0 has one
-other_told : (f : ℕ → Option ℕ) (register value q v : ℕ) → f register ≡ None → f q ≡ Some v → updated f register (Some value) q ≡ Some v
+names_none : (r : Request) → IsMakeable r → names_open_at (Some (asked r)) ≡ false
+names_none (requests.Ins ins pins) (inl addi) = ap (λ i. names_open_at (Some (asked (requests.Ins i pins)))) addi.0
+names_none (requests.Ins ins pins) (inr add) = ap (λ i. names_open_at (Some (asked (requests.Ins i pins)))) add.0
+
+-- a register that had no value gets one, and the others keep theirs
+other_told : (f : Registers) (register value q v : ℕ) → f register ≡ None → f q ≡ Some v → updated f register (Some value) q ≡ Some v
 other_told f register value q v none some = by (eqb q register) refl
   where
     by : (b : Bool) → b ≡ eqb q register → cond b (Some value) (f q) ≡ Some v
     by true e = absurd (let same : q ≡ register = eqb-true q register (sym e) in let both : f q ≡ None = ap f same ∙ none in cc)
     by false e = some
 
-value_at : (f : ℕ → ℕ) (register value : ℕ) → updated f register value register ≡ value
-value_at f register value = by (eqb register register) refl
-  where
-    by : (b : Bool) → b ≡ eqb register register → cond b value (f register) ≡ value
-    by true e = refl
-    by false e = absurd (let same = eq-eqb register register refl in cc)
-
-other_value : (f : ℕ → ℕ) (g : ℕ → Option ℕ) (register value q v : ℕ) → g register ≡ None → g q ≡ Some v → updated f register value q ≡ f q
-other_value f g register value q v none some = by (eqb q register) refl
-  where
-    by : (b : Bool) → b ≡ eqb q register → cond b value (f q) ≡ f q
-    by true e = absurd (let same : q ≡ register = eqb-true q register (sym e) in let both : g q ≡ None = ap g same ∙ none in cc)
-    by false e = refl
-
 -- the lines tell of the value that was fixed
-starting_fixed : (ls : List Line) (initial : ℕ → Option ℕ) (h register value q : ℕ) → initial q ≡ starting ls h q → initial register ≡ None
+starting_fixed : (ls : List Line) (initial : Registers) (h register value q : ℕ) → initial q ≡ starting ls h q → initial register ≡ None
     → updated initial register (Some value) q ≡ starting (ls ++ fixed h register value ∷ []) h q
 starting_fixed ls initial h register value q same none =
     by (eqb q register) refl ∙ ap (λ o. option_or o (starting (fixed h register value ∷ []) h q)) same ∙ sym (starting_append ls (fixed h register value ∷ []) h q)
@@ -222,27 +216,25 @@ pub stands_fixed : (work : Work) (old new : TaskSeen) (s : HartState) (r : Reque
     → ((others : List ℕ) × (untouched_of old.present (sources (asked r)) ≡ register ∷ others)) → register < 32 → FixesSource register old new
     → (t : HartState) × Stands work new t
 stands_fixed work old new s r register st is_begun reads small f =
-    let line : Line = fixed old.number register f.value in
+    let number = number_is work old s st in
+    let line : Line = fixed old.hart.number register f.value in
     let phase : s.phase ≡ begun r = st.phase ∙ ap phase_seen is_begun in
-    let drawn : f.value ≡ word_of s.seed (stream_of s.hart) s.drawn =
-    f.drawn ∙ ap (λ (d : Draws). word_of d.seed d.stream d.drawn) st.draws ∙ ap (λ h. word_of s.seed (stream_of h) s.drawn) (sym st.hart) in
-    let read : Reads s.phase s.registers register =
-    subst (λ p. Reads p s.registers register) (sym phase) (subst (λ g. (others : List ℕ) × (untouched_of g (sources (asked r)) ≡ register ∷ others)) (sym st.registers) reads) in
-    let fixes : Fixes s old.number register f.value = record { of_hart = sym st.hart; reads = read; register_is = small; drawn = drawn; small = f.small } in
+    let drawn : f.value ≡ word_of s.seed (stream_of s.machine.number) s.drawn =
+    f.drawn ∙ ap (λ (d : Draws). word_of d.seed d.stream d.drawn) st.draws ∙ ap (λ h. word_of s.seed (stream_of h) s.drawn) (sym number) in
+    let read : Reads s.phase s.machine.x register =
+    subst (λ p. Reads p s.machine.x register) (sym phase)
+    (subst (λ (m : Hart). (others : List ℕ) × (untouched_of m.x (sources (asked r)) ≡ register ∷ others)) (sym st.machine) reads) in
+    let fixes : Fixes s old.hart.number register f.value = record { of_hart = sym number; reads = read; register_is = small; drawn = drawn; small = f.small } in
     let to : HartState = after s line in (
       to,
       subst (λ t. Stands work t to) (sym f.task) (record {
-        run = runs_more (start work old.draws.seed old.number) s old.log.lines line st.run fixes;
-        hart = st.hart;
+        run = runs_more (start work old.draws.seed old.hart.number) s old.log.lines line st.run fixes;
         member = st.member;
-        pc = st.pc;
+        machine = ap (λ m. with_register m register f.value) st.machine;
+        held = more_written old.present old.hart.x (Some (register, f.value)) st.held;
         zero = other_told old.present register f.value 0 0 f.untouched st.zero;
-        registers = ap (λ g. updated g register (Some f.value)) st.registers;
-        held = λ q v told. elim (told_at old.present register f.value q v told) [
-          | inl at ↦ ap (λ (g : ℕ → ℕ). g q) f.x ∙ ap (updated (λ k. slice_index old.x k) register f.value) at.0 ∙ value_at (λ k. slice_index old.x k) register f.value ∙ at.1
-          | inr before ↦ ap (λ (g : ℕ → ℕ). g q) f.x ∙ other_value (λ k. slice_index old.x k) old.present register f.value q v f.untouched before ∙ st.held q v before
-        ];
-        initial = λ q. starting_fixed old.log.lines old.initial old.number register f.value q (st.initial q) f.first;
+        mode = st.mode;
+        initial = λ q. starting_fixed old.log.lines old.initial old.hart.number register f.value q (st.initial q) f.first;
         draws = ap (λ (d : Draws). record { seed = d.seed; stream = d.stream; drawn = d.drawn + 1 }) st.draws;
         few = omega (arith, st.few, length-append old.log.lines (line ∷ []));
         phase = st.phase;
@@ -293,7 +285,7 @@ stands_read work old new s r register st is_begun reads small (inr f) =
       others = λ q v told. ap (λ (t : TaskSeen). t.present q) f.task ∙ other_told old.present register f.value q v f.untouched told;
     }
   where
-    given : (g : ℕ → Option ℕ) (q v : ℕ) → updated g q (Some v) q ≡ Some v
+    given : (g : Registers) (q v : ℕ) → updated g q (Some v) q ≡ Some v
     given g q v = by (eqb q q) refl
       where
         by : (b : Bool) → b ≡ eqb q q → cond b (Some v) (g q) ≡ Some v
@@ -302,115 +294,112 @@ stands_read work old new s r register st is_begun reads small (inr f) =
 
 -- ---- the request's word is made
 
-meets_asked : (r : Request) (e : Effect) → decoded e.word ≡ Some (asked r) → Meets r e
-meets_asked (requests.Ins ins pins) e is = (asked (requests.Ins ins pins), is, record { ins = refl; rd = refl; rs1 = refl; rs2 = refl; imm = refl })
+meets_asked : (r : Request) (e : Effect) → e.word ≡ Some (effect_word e) → decoded (effect_word e) ≡ Some (asked r) → Meets r e
+meets_asked (requests.Ins ins pins) e told is =
+    (asked (requests.Ins ins pins), ap (λ w. w >>= decoded) told ∙ is, record { ins = refl; rd = refl; rs1 = refl; rs2 = refl; imm = refl })
 
--- the line of a step that retires is legal where the word stands behind the others, and its sources have values
-steps_at : (old new : TaskSeen) (s : HartState) (e : Effect) (d : Decoded) (a b : ℕ) → s.hart ≡ old.number → s.pc ≡ old.pc → s.registers ≡ old.present
-    → ((r v : ℕ) → old.present r ≡ Some v → slice_index old.x r ≡ v) → decoded e.word ≡ Some d → old.present d.ops.rs1 ≡ Some a → old.present d.ops.rs2 ≡ Some b
-    → s.pc ≡ code_address s.hart (length s.words) → StepsWord old new e → (StepsAt s e) × (next_of s e.word ≡ new.pc)
-steps_at old new s e d a b hart pc registers held is rs1 rs2 place steps =
-    let told : Option Retired = Some (record { effect = e; next = new.pc }) in
-    let here : retired old.number old.pc old.pc e.word old.present ≡ told =
-    retired_alike old.number old.pc old.pc e.word d old.present (λ q. Some (slice_index old.x q)) is
-    (rs1 ∙ ap Some (sym (held d.ops.rs1 a rs1))) (rs2 ∙ ap Some (sym (held d.ops.rs2 b rs2))) ∙ steps.retires in
-    let there : step_of s e.word ≡ told =
-    subst (λ h. retired h s.pc s.pc e.word s.registers ≡ told) (sym hart)
-    (subst (λ p. retired old.number p p e.word s.registers ≡ told) (sym pc)
-    (subst (λ g. retired old.number old.pc old.pc e.word g ≡ told) (sym registers) here)) in
-    let next : next_of s e.word ≡ new.pc = ap (λ m. option_map_or (λ (r : Retired). r.next) m s.pc) there in (
+word_told : (old new : TaskSeen) (e : Effect) → StepsWord old new e → e.word ≡ Some (effect_word e)
+word_told old new e steps = ap (λ (q : Effect). q.word) steps.plain
+
+-- the line of a step is legal where the word stands behind the others, and its sources have values
+steps_at : (work : Work) (old new : TaskSeen) (s : HartState) (e : Effect) (d : Decoded) (a b : ℕ) → Stands work old s → decoded (effect_word e) ≡ Some d
+    → names_open_at (Some d) ≡ false → old.present (rs1_read d) ≡ Some a → old.present d.ops.rs2 ≡ Some b
+    → s.machine.pc ≡ code_address s.machine.number (length s.words) → StepsWord old new e
+    → (StepsAt s e) × (hart_after s (effect_word e) ≡ with_registers new.present new.hart)
+steps_at work old new s e d a b st is closed rs1 rs2 place steps =
+    let word : ℕ = effect_word e in
+    let to : Hart = with_registers (with_write old.present e.rd) new.hart in
+    let told : Option Stepped = Some (record { effect = e; hart = to }) in
+    let here : step (word_seen old.hart.pc word) (with_registers old.present old.hart) ≡ told =
+    alike old.hart word d (record { effect = e; hart = new.hart }) old.present st.mode (own_word_told old.hart.pc word steps.in_it steps.small) is
+    steps.plain steps.steps (below_back _ _ a rs1 (st.held (rs1_read d))) (below_back _ _ b rs2 (st.held d.ops.rs2)) in
+    let there : step_of s word ≡ told = ap (λ (m : Hart). step (word_seen m.pc word) m) st.machine ∙ here in
+    let after_it : hart_after s word ≡ to = ap (λ m. option_map_or (λ (r : Stepped). r.hart) m s.machine) there in (
       record {
-        effect = there ∙ ap (λ n. Some (record { effect = e; next = n })) (sym next);
+        effect = there ∙ ap (λ h. Some (record { effect = e; hart = h })) (sym after_it);
+        plain = steps.plain ∙ ap (λ m. plain_effect m word e.rd) (sym st.machine);
         place = place;
         word = steps.small;
+        closed = ap names_open_in (word_told old new e steps) ∙ ap names_open_at is ∙ closed;
       },
-      next,
+      after_it ∙ ap (λ g. with_registers g new.hart) (sym steps.present),
     )
 
--- x0 is never written
+-- x0 keeps its value
 zero_stays : (old new : TaskSeen) (e : Effect) → old.present 0 ≡ Some 0 → StepsWord old new e → new.present 0 ≡ Some 0
 zero_stays old new e is_zero steps =
-    let w = rd_is_write old.number old.pc old.pc e.word (λ q. Some (slice_index old.x q)) (record { effect = e; next = new.pc }) steps.retires in
-    ap (λ (g : ℕ → Option ℕ). g 0) steps.present ∙ subst (λ rd. with_present old.present rd 0 ≡ Some 0) (sym w.2) (kept w.0 w.1)
-  where
-    held : old.present 0 ≡ Some 0
-    held = is_zero
-
-    kept : (r v : ℕ) → with_present old.present (write_of r v) 0 ≡ Some 0
-    kept zero v = held
-    kept (suc r) v = other (eqb 0 (suc r)) refl
-      where
-        other : (b : Bool) → b ≡ eqb 0 (suc r) → cond b (Some v) (old.present 0) ≡ Some 0
-        other true is = absurd (let same : 0 ≡ suc r = eqb-true 0 (suc r) (sym is) in omega arith)
-        other false is = is_zero
+    ap (λ (g : Registers). g 0) steps.present
+    ∙ zero_kept old.present (word_seen old.hart.pc (effect_word e)) old.hart (record { effect = e; hart = new.hart }) steps.steps ∙ is_zero
 
 -- a write changes what is told and what the hart holds alike
-held_after : (old new : TaskSeen) (e : Effect) → StepsWord old new e → ((r v : ℕ) → old.present r ≡ Some v → slice_index old.x r ≡ v)
-    → (r v : ℕ) → new.present r ≡ Some v → slice_index new.x r ≡ v
-held_after old new e steps held r v told =
-    ap (λ (f : ℕ → ℕ). f r) steps.x ∙ extends_write (λ q. slice_index old.x q) old.present e.rd held r v (sym (ap (λ (g : ℕ → Option ℕ). g r) steps.present) ∙ told)
+held_after : (old new : TaskSeen) (e : Effect) → StepsWord old new e → TellsMore old.present old.hart.x → TellsMore new.present new.hart.x
+held_after old new e steps held =
+    let leaves = step_leaves (word_seen old.hart.pc (effect_word e)) old.hart (record { effect = e; hart = new.hart }) steps.steps in
+    subst (λ g. TellsMore g new.hart.x) (sym steps.present) (subst (λ g. TellsMore (with_write old.present e.rd) g) (sym leaves.registers)
+    (more_written old.present old.hart.x e.rd held))
 
 -- what a step leaves of the draws
-draws_after : (old new : TaskSeen) (s : HartState) (e : Effect) → StepsWord old new e → new.number ≡ old.number
-    → old.draws ≡ record { seed = s.seed; stream = stream_of old.number; drawn = s.drawn }
-    → new.draws ≡ record { seed = s.seed; stream = stream_of new.number; drawn = s.drawn }
+draws_after : (old new : TaskSeen) (s : HartState) (e : Effect) → StepsWord old new e → new.hart.number ≡ old.hart.number
+    → old.draws ≡ record { seed = s.seed; stream = stream_of old.hart.number; drawn = s.drawn }
+    → new.draws ≡ record { seed = s.seed; stream = stream_of new.hart.number; drawn = s.drawn }
 draws_after old new s e steps number are =
     steps.draws ∙ are ∙ ap (λ h. record { seed = s.seed; stream = stream_of h; drawn = s.drawn }) (sym number)
 
 -- the step of a task that stands behind so many words
 step_stands : (work : Work) (old new : TaskSeen) (s : HartState) (r : Request) (a b : ℕ) → hart_count work ≡ 1 → length (template_of work 0) ≤ 1000
-    → Stands work old s → old.phase ≡ tasks.Begun r → old.present (asked r).ops.rs1 ≡ Some a → old.present (asked r).ops.rs2 ≡ Some b → MakesStep r old new
+    → IsMakeable r → Stands work old s → old.phase ≡ tasks.Begun r → old.present (asked r).ops.rs1 ≡ Some a → old.present (asked r).ops.rs2 ≡ Some b → MakesStep r old new
     → (t : HartState) × Stands work new t
-step_stands work old new s r a b one room st is_begun rs1 rs2 m =
+step_stands work old new s r a b one room makeable st is_begun rs1 rs2 m =
     let e : Effect = m.effect in
     let seed : ℕ = old.draws.seed in
-    let h : old.number ≡ 0 = omega (arith, one, st.member) in
+    let h : old.hart.number ≡ 0 = omega (arith, one, st.member) in
     let phase : s.phase ≡ begun r = st.phase ∙ ap phase_seen is_begun in
     let words : length old.words ≡ old.done = st.made ∙ ap (λ p. word_count p old.done) is_begun in
     let count : length s.words ≡ old.done = ap length st.words ∙ words in
-    let begun_many : old.done + 1 ≤ length (template_of work old.number) = subst (λ p. begun_count p old.done ≤ length (template_of work old.number)) is_begun st.many in
+    let begun_many : old.done + 1 ≤ length (template_of work old.hart.number) = subst (λ p. begun_count p old.done ≤ length (template_of work old.hart.number)) is_begun st.many in
     let many : old.done + 1 ≤ length (template_of work 0) = subst (λ n. old.done + 1 ≤ length (template_of work n)) h begun_many in
     let few : old.done + 1 ≤ 1000 = omega (arith, many, room) in
-    let place : s.pc ≡ code_address s.hart (length s.words) =
-    st.pc ∙ st.place ∙ ap (λ n. code_address old.number n) (sym count) ∙ ap (λ n. code_address n (length s.words)) (sym st.hart) in
-    let at : (StepsAt s e) × (next_of s e.word ≡ new.pc) =
-    steps_at old new s e (asked r) a b st.hart st.pc st.registers st.held m.word rs1 rs2 place m.steps in
-    let makes : Makes s.phase e = subst (λ p. Makes p e) (sym phase) (meets_asked r e m.word) in
+    let number = number_is work old s st in
+    let place : s.machine.pc ≡ code_address s.machine.number (length s.words) =
+    ap (λ (m : Hart). m.pc) st.machine ∙ st.place ∙ ap (λ n. code_address old.hart.number n) (sym count) ∙ ap (λ n. code_address n (length s.words)) (sym number) in
+    let first : old.present (rs1_read (asked r)) ≡ Some a = ap old.present (rs1_is r makeable) ∙ rs1 in
+    let at = steps_at work old new s e (asked r) a b st m.word (names_none r makeable) first rs2 place m.steps in
+    let makes : Makes s.phase e = subst (λ p. Makes p e) (sym phase) (meets_asked r e (word_told old new e m.steps) m.word) in
     let mid : HartState = moved s e stepped in
-    let to : HartState = after mid (done old.number old.done) in
-    let first : Runs legal after (start work seed old.number) (old.log.lines ++ made e ∷ []) mid =
-    runs_more (start work seed old.number) s old.log.lines (made e) st.run (makes, at.0) in
-    let second : Runs legal after (start work seed old.number) ((old.log.lines ++ made e ∷ []) ++ done old.number old.done ∷ []) to =
-    runs_more (start work seed old.number) mid (old.log.lines ++ made e ∷ []) (done old.number old.done) first (sym st.hart, sym st.count, refl) in
-    let lines : (old.log.lines ++ made e ∷ []) ++ done old.number old.done ∷ [] ≡ new.log.lines =
-    append_assoc old.log.lines (made e ∷ []) (done old.number old.done ∷ []) ∙ sym m.lines in
+    let at_number : old.hart.number ≡ mid.machine.number = sym m.number ∙ sym (ap (λ (k : Hart). k.number) at.1) in
+    let to : HartState = after mid (done old.hart.number old.done) in
+    let made_run : Runs legal after (start work seed old.hart.number) (old.log.lines ++ made e ∷ []) mid =
+    runs_more (start work seed old.hart.number) s old.log.lines (made e) st.run (makes, at.0) in
+    let second : Runs legal after (start work seed old.hart.number) ((old.log.lines ++ made e ∷ []) ++ done old.hart.number old.done ∷ []) to =
+    runs_more (start work seed old.hart.number) mid (old.log.lines ++ made e ∷ []) (done old.hart.number old.done) made_run (at_number, sym st.count, refl) in
+    let lines : (old.log.lines ++ made e ∷ []) ++ done old.hart.number old.done ∷ [] ≡ new.log.lines =
+    append_assoc old.log.lines (made e ∷ []) (done old.hart.number old.done ∷ []) ∙ sym m.lines in
     let behind_seed : new.draws.seed ≡ seed = ap (λ (d : Draws). d.seed) m.steps.draws in (
       to,
       record {
-        run = subst (λ k. Runs legal after (start work k new.number) new.log.lines to) (sym behind_seed)
-            (subst (λ n. Runs legal after (start work seed n) new.log.lines to) (sym m.number) (subst (λ ls. Runs legal after (start work seed old.number) ls to) lines second));
-        hart = st.hart ∙ sym m.number;
+        run = subst (λ k. Runs legal after (start work k new.hart.number) new.log.lines to) (sym behind_seed)
+            (subst (λ n. Runs legal after (start work seed n) new.log.lines to) (sym m.number) (subst (λ ls. Runs legal after (start work seed old.hart.number) ls to) lines second));
         member = subst (λ n. n < hart_count work) (sym m.number) st.member;
-        pc = at.1;
-        zero = zero_stays old new e st.zero m.steps;
-        registers = ap (λ g. with_present g e.rd) st.registers ∙ sym m.steps.present;
+        machine = at.1;
         held = held_after old new e m.steps st.held;
-        initial = λ q. ap (λ (g : ℕ → Option ℕ). g q) m.steps.initial ∙ st.initial q
-            ∙ sym (starting_kept old.log.lines (made e ∷ done old.number old.done ∷ []) old.number q refl)
-            ∙ ap (λ ls. starting ls old.number q) (sym m.lines) ∙ ap (λ n. starting new.log.lines n q) (sym m.number);
+        zero = zero_stays old new e st.zero m.steps;
+        mode = m.steps.mode ∙ st.mode;
+        initial = λ q. ap (λ (g : Registers). g q) m.steps.initial ∙ st.initial q
+            ∙ sym (starting_kept old.log.lines (made e ∷ done old.hart.number old.done ∷ []) old.hart.number q refl)
+            ∙ ap (λ ls. starting ls old.hart.number q) (sym m.lines) ∙ ap (λ n. starting new.log.lines n q) (sym m.number);
         draws = draws_after old new s e m.steps m.number st.draws;
-        few = omega (arith, st.few, ap (λ (d : Draws). d.drawn) m.steps.draws, ap length m.lines, length-append old.log.lines (made e ∷ done old.number old.done ∷ []));
+        few = omega (arith, st.few, ap (λ (d : Draws). d.drawn) m.steps.draws, ap length m.lines, length-append old.log.lines (made e ∷ done old.hart.number old.done ∷ []));
         phase = ap phase_seen (sym m.phase);
         count = ap (λ n. n + 1) st.count ∙ sym m.count;
-        left = st.left ∙ ap (λ p. drop (begun_count p old.done) (template_of work old.number)) is_begun
+        left = st.left ∙ ap (λ p. drop (begun_count p old.done) (template_of work old.hart.number)) is_begun
             ∙ ap (λ n. drop (old.done + 1) (template_of work n)) (sym m.number)
-            ∙ ap (λ n. drop n (template_of work new.number)) (sym m.count)
-            ∙ ap (λ p. drop (begun_count p new.done) (template_of work new.number)) (sym m.phase);
-        request = subst (λ p. IsNext (template_of work new.number) new.done p) (sym m.phase) tt;
-        many = subst (λ p. begun_count p new.done ≤ length (template_of work new.number)) (sym m.phase)
-            (subst (λ n. new.done ≤ length (template_of work n)) (sym m.number) (subst (λ k. k ≤ length (template_of work old.number)) (sym m.count) begun_many));
-        words = ap (λ l. l ++ e.word ∷ []) st.words ∙ sym m.words;
-        made = ap length m.words ∙ length-append old.words (e.word ∷ []) ∙ ap (λ n. n + 1) words ∙ sym m.count ∙ ap (λ p. word_count p new.done) (sym m.phase);
+            ∙ ap (λ n. drop n (template_of work new.hart.number)) (sym m.count)
+            ∙ ap (λ p. drop (begun_count p new.done) (template_of work new.hart.number)) (sym m.phase);
+        request = subst (λ p. IsNext (template_of work new.hart.number) new.done p) (sym m.phase) tt;
+        many = subst (λ p. begun_count p new.done ≤ length (template_of work new.hart.number)) (sym m.phase)
+            (subst (λ n. new.done ≤ length (template_of work n)) (sym m.number) (subst (λ k. k ≤ length (template_of work old.hart.number)) (sym m.count) begun_many));
+        words = ap (λ l. l ++ effect_word e ∷ []) st.words ∙ sym m.words;
+        made = ap length m.words ∙ length-append old.words (effect_word e ∷ []) ∙ ap (λ n. n + 1) words ∙ sym m.count ∙ ap (λ p. word_count p new.done) (sym m.phase);
         place = m.next ∙ omega (arith, st.place, h, few, m.count, m.number);
       },
     )
@@ -420,20 +409,15 @@ pub stands_made : (work : Work) (old new : TaskSeen) (s : HartState) (r : Reques
     → (t : HartState) × Stands work new t
 stands_made work old new s r one room makeable st is_begun m =
     let small = sources_small r makeable in
-    let a = stands_read work old m.first s r (asked r).ops.rs1 st is_begun (first_reads old.present (asked r)) small.0 m.reads_rs1 in
+    let reads = rs1_is r makeable in
+    let a = stands_read work old m.first s r (asked r).ops.rs1 st is_begun
+    (λ none. subst (λ q. (others : List ℕ) × (untouched_of old.present (sources (asked r)) ≡ q ∷ others)) reads
+    (first_reads old.present (asked r) (ap old.present reads ∙ none))) small.0 m.reads_rs1 in
     let b = stands_read work m.first m.second a.state r (asked r).ops.rs2 a.stands a.phase
-    (second_reads m.first.present (asked r) a.value a.told) small.1 m.reads_rs2 in
-    step_stands work m.second new b.state r a.value b.value one room b.stands b.phase (b.others (asked r).ops.rs1 a.value a.told) b.told m.makes
+    (second_reads m.first.present (asked r) a.value (ap m.first.present reads ∙ a.told)) small.1 m.reads_rs2 in
+    step_stands work m.second new b.state r a.value b.value one room makeable b.stands b.phase (b.others (asked r).ops.rs1 a.value a.told) b.told m.makes
 
 -- ---- the ending step is made
-
--- what the ending word says
-abbrev end_jump : Decoded
-end_jump = record { ins = Jal; ops = record { rd = 0; rs1 = 0; rs2 = 0; imm = pos 0; aqrl = 0 } }
-
-end_decoded : decoded end_word ≡ Some end_jump
-unfolding ins_at
-end_decoded = refl
 
 drop-nil : (i : ℕ) → drop {A = Request} i [] ≡ []
 drop-nil zero = refl
@@ -445,53 +429,52 @@ drop_past (q ∷ rs) zero e = absurd cc
 drop_past (q ∷ rs) (suc i) e = drop_past rs i e
 
 pub stands_ended : (work : Work) (old new : TaskSeen) (s : HartState) → Stands work old s → old.phase ≡ tasks.Between
-    → slice_get (template_of work old.number) old.done ≡ None → MakesEnd old new
+    → slice_get (template_of work old.hart.number) old.done ≡ None → MakesEnd old new
     → (t : HartState) × Stands work new t
 stands_ended work old new s st is_between past m =
     let e : Effect = m.effect in
     let phase : s.phase ≡ between = st.phase ∙ ap phase_seen is_between in
-    let left : s.left ≡ [] = st.left ∙ ap (λ p. drop (begun_count p old.done) (template_of work old.number)) is_between ∙ drop_past (template_of work old.number) old.done past in
+    let left : s.left ≡ [] = st.left ∙ ap (λ p. drop (begun_count p old.done) (template_of work old.hart.number)) is_between ∙ drop_past (template_of work old.hart.number) old.done past in
     let words : length old.words ≡ old.done = st.made ∙ ap (λ p. word_count p old.done) is_between in
     let count : length s.words ≡ old.done = ap length st.words ∙ words in
-    let begun_many : old.done ≤ length (template_of work old.number) = subst (λ p. begun_count p old.done ≤ length (template_of work old.number)) is_between st.many in
-    let place : s.pc ≡ code_address s.hart (length s.words) =
-    st.pc ∙ st.place ∙ ap (λ n. code_address old.number n) (sym count) ∙ ap (λ n. code_address n (length s.words)) (sym st.hart) in
-    let ends_word : decoded e.word ≡ Some end_jump = ap decoded m.word ∙ end_decoded in
-    let at : (StepsAt s e) × (next_of s e.word ≡ new.pc) =
-    steps_at old new s e end_jump 0 0 st.hart st.pc st.registers st.held ends_word st.zero st.zero place m.steps in
+    let begun_many : old.done ≤ length (template_of work old.hart.number) = subst (λ p. begun_count p old.done ≤ length (template_of work old.hart.number)) is_between st.many in
+    let number = number_is work old s st in
+    let place : s.machine.pc ≡ code_address s.machine.number (length s.words) =
+    ap (λ (m : Hart). m.pc) st.machine ∙ st.place ∙ ap (λ n. code_address old.hart.number n) (sym count) ∙ ap (λ n. code_address n (length s.words)) (sym number) in
+    let ends_word : decoded (effect_word e) ≡ Some end_jump = ap (λ w. decoded (unwrap_or w 0)) m.word ∙ end_decoded in
+    let at = steps_at work old new s e end_jump 0 0 st ends_word refl st.zero st.zero place m.steps in
     let seed : ℕ = old.draws.seed in
     let behind_seed : new.draws.seed ≡ seed = ap (λ (d : Draws). d.seed) m.steps.draws in
     let ends : Ends s.phase s.left = subst (λ p. Ends p s.left) (sym phase) (subst (λ l. Ends between l) (sym left) tt) in
     let to : HartState = moved s e finished in
-    let run : Runs legal after (start work seed old.number) (old.log.lines ++ ending e ∷ []) to =
-    runs_more (start work seed old.number) s old.log.lines (ending e) st.run (ends, m.word, at.0) in (
+    let run : Runs legal after (start work seed old.hart.number) (old.log.lines ++ ending e ∷ []) to =
+    runs_more (start work seed old.hart.number) s old.log.lines (ending e) st.run (ends, m.word, at.0) in (
       to,
       record {
-        run = subst (λ k. Runs legal after (start work k new.number) new.log.lines to) (sym behind_seed)
-            (subst (λ n. Runs legal after (start work seed n) new.log.lines to) (sym m.number) (subst (λ ls. Runs legal after (start work seed old.number) ls to) (sym m.lines) run));
-        hart = st.hart ∙ sym m.number;
+        run = subst (λ k. Runs legal after (start work k new.hart.number) new.log.lines to) (sym behind_seed)
+            (subst (λ n. Runs legal after (start work seed n) new.log.lines to) (sym m.number) (subst (λ ls. Runs legal after (start work seed old.hart.number) ls to) (sym m.lines) run));
         member = subst (λ n. n < hart_count work) (sym m.number) st.member;
-        pc = at.1;
-        zero = zero_stays old new e st.zero m.steps;
-        registers = ap (λ g. with_present g e.rd) st.registers ∙ sym m.steps.present;
+        machine = at.1;
         held = held_after old new e m.steps st.held;
-        initial = λ q. ap (λ (g : ℕ → Option ℕ). g q) m.steps.initial ∙ st.initial q
-            ∙ sym (starting_kept old.log.lines (ending e ∷ []) old.number q refl)
-            ∙ ap (λ ls. starting ls old.number q) (sym m.lines) ∙ ap (λ n. starting new.log.lines n q) (sym m.number);
+        zero = zero_stays old new e st.zero m.steps;
+        mode = m.steps.mode ∙ st.mode;
+        initial = λ q. ap (λ (g : Registers). g q) m.steps.initial ∙ st.initial q
+            ∙ sym (starting_kept old.log.lines (ending e ∷ []) old.hart.number q refl)
+            ∙ ap (λ ls. starting ls old.hart.number q) (sym m.lines) ∙ ap (λ n. starting new.log.lines n q) (sym m.number);
         draws = draws_after old new s e m.steps m.number st.draws;
         few = omega (arith, st.few, ap (λ (d : Draws). d.drawn) m.steps.draws, ap length m.lines, length-append old.log.lines (ending e ∷ []));
         phase = ap phase_seen (sym m.phase);
         count = st.count ∙ sym m.count;
-        left = st.left ∙ ap (λ p. drop (begun_count p old.done) (template_of work old.number)) is_between
+        left = st.left ∙ ap (λ p. drop (begun_count p old.done) (template_of work old.hart.number)) is_between
             ∙ ap (λ n. drop old.done (template_of work n)) (sym m.number)
-            ∙ ap (λ n. drop n (template_of work new.number)) (sym m.count)
-            ∙ ap (λ p. drop (begun_count p new.done) (template_of work new.number)) (sym m.phase);
-        request = subst (λ p. IsNext (template_of work new.number) new.done p) (sym m.phase) tt;
-        many = subst (λ p. begun_count p new.done ≤ length (template_of work new.number)) (sym m.phase)
-            (subst (λ n. new.done ≤ length (template_of work n)) (sym m.number) (subst (λ k. k ≤ length (template_of work old.number)) (sym m.count) begun_many));
-        words = ap (λ l. l ++ e.word ∷ []) st.words ∙ sym m.words;
-        made = ap length m.words ∙ length-append old.words (e.word ∷ []) ∙ ap (λ n. n + 1) words ∙ ap (λ n. n + 1) (sym m.count) ∙ ap (λ p. word_count p new.done) (sym m.phase);
-        place = m.next ∙ st.place ∙ ap (λ n. code_address n old.done) (sym m.number) ∙ ap (λ n. code_address new.number n) (sym m.count);
+            ∙ ap (λ n. drop n (template_of work new.hart.number)) (sym m.count)
+            ∙ ap (λ p. drop (begun_count p new.done) (template_of work new.hart.number)) (sym m.phase);
+        request = subst (λ p. IsNext (template_of work new.hart.number) new.done p) (sym m.phase) tt;
+        many = subst (λ p. begun_count p new.done ≤ length (template_of work new.hart.number)) (sym m.phase)
+            (subst (λ n. new.done ≤ length (template_of work n)) (sym m.number) (subst (λ k. k ≤ length (template_of work old.hart.number)) (sym m.count) begun_many));
+        words = ap (λ l. l ++ effect_word e ∷ []) st.words ∙ sym m.words;
+        made = ap length m.words ∙ length-append old.words (effect_word e ∷ []) ∙ ap (λ n. n + 1) words ∙ ap (λ n. n + 1) (sym m.count) ∙ ap (λ p. word_count p new.done) (sym m.phase);
+        place = m.next ∙ st.place ∙ ap (λ n. code_address n old.done) (sym m.number) ∙ ap (λ n. code_address new.hart.number n) (sym m.count);
       },
     )
 

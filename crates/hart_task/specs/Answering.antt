@@ -3,6 +3,7 @@ use Rattle.std.specs.Prelude.{ℕ, ◌≡◌, ◌+◌, ◌*◌, List, [], ◌∷
 use Rattle.std.specs.List.{list_any, count_by}
 use Rattle.std.specs.Option.{option_map_or}
 use Rattle.rv_fields.specs.declared.row_table.Ins.{Ins}
+use Rattle.rv_fields.specs.Attempt.{◌>>=◌}
 use Rattle.rv_fields.specs.Decode.{Decoded, decoded, sources}
 use Rattle.rv_fields.specs.Effect.{Effect}
 use Rattle.region_plan.specs.declared.request.Pins.{Pins}
@@ -26,7 +27,7 @@ pub record IsPinned (wanted : Ins) (pins : Pins) (d : Decoded) : Type 0 where
 
 -- the step is one that the request asks for
 abbrev pub Meets : request_of.Request → Effect → Type 0
-Meets (requests.Ins ins pins) e = (d : Decoded) × (decoded e.word ≡ Some d) × IsPinned ins pins d
+Meets (requests.Ins ins pins) e = (d : Decoded) × ((e.word >>= decoded) ≡ Some d) × IsPinned ins pins d
 
 -- ---- registers that get their starting values late
 
@@ -62,12 +63,12 @@ abbrev pub fixings : ℕ → ℕ → ℕ → List ℕ → List Line
 fixings seed hart drawn [] = []
 fixings seed hart drawn (r ∷ rs) = fixed hart r (word_of seed (stream_of hart) drawn) ∷ fixings seed hart (drawn + 1) rs
 
--- the registers that a word reads
-abbrev pub sources_in : ℕ → List ℕ
-sources_in word = option_map_or sources (decoded word) []
+-- the registers that a word reads, if there is one
+abbrev pub sources_in : Option ℕ → List ℕ
+sources_in word = option_map_or sources (word >>= decoded) []
 
 -- The lines right before a step of the word, behind some lines of its hart: they fix what it reads of the untouched.
-abbrev pub late_lines : ℕ → ℕ → List Line → ℕ → List Line
+abbrev pub late_lines : ℕ → ℕ → List Line → Option ℕ → List Line
 late_lines seed hart before word =
     fixings seed hart (count_by is_fixing before) (filter (is_untouched before) (sources_in word))
 
@@ -85,7 +86,7 @@ block seed hart k r before e = request hart k (kind_of r) ∷ late_lines seed ha
 -- A hart's lines from its request of number k on, behind those before: a block for each request that is left, whose
 -- made step meets it, and then the ending step, which reads no register.
 abbrev pub AnswersFrom : ℕ → ℕ → ℕ → List request_of.Request → List Line → List Line → Type 0
-AnswersFrom seed hart k [] before lines = (e : Effect) × (e.word ≡ end_word) × (lines ≡ ending e ∷ [])
+AnswersFrom seed hart k [] before lines = (e : Effect) × (e.word ≡ Some end_word) × (lines ≡ ending e ∷ [])
 AnswersFrom seed hart k (r ∷ rs) before lines = (e : Effect) × (rest : List Line) × Meets r e
     × (lines ≡ block seed hart k r before e ++ rest)
     × AnswersFrom seed hart (k + 1) rs (before ++ block seed hart k r before e) rest

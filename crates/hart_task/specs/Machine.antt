@@ -1,10 +1,13 @@
 -- A hart's log as a run of a machine over lines. It reads the hart's template and the lines alone: what a step
 -- finds in memory is taken from its line. A register's starting value is told where a step first reads it.
-use Rattle.std.specs.Prelude.{ℕ, ◌≡◌, ◌+◌, ◌^◌, ◌<◌, List, [], ◌∷◌, ◌++◌, length, filter, Option, Some, None, is_none}
+use Rattle.std.specs.Prelude.{ℕ, ◌≡◌, ◌+◌, ◌^◌, ◌<◌, List, [], ◌∷◌, ◌++◌, length, filter, false, Option, Some, None, is_none, unwrap_or}
 use Rattle.std.specs.Option.{option_map_or}
+use Rattle.rv_fields.specs.declared.mode.Mode.TheVariants.{M}
 use Rattle.rv_fields.specs.Decode.{Decoded, sources}
 use Rattle.rv_fields.specs.Effect.{Effect}
-use Rattle.rv_fields.specs.Step.{Retired, retired, updated}
+use Rattle.rv_fields.specs.Hart.{Hart, Registers, updated}
+use Rattle.rv_fields.specs.Laws.{names_open_in}
+use Rattle.rv_fields.specs.Step.{Stepped, step}
 use Rattle.region_plan.specs.declared.request.Request.{Request}
 use Rattle.region_plan.specs.declared.request.Request.TheVariants as requests
 use Rattle.region_plan.specs.Work.{Work, template_of}
@@ -12,7 +15,9 @@ use Rattle.choice_tree.specs.Draws.{word_of}
 use Rattle.trace_text.specs.declared.line.Kind.{Kind}
 use Rattle.trace_text.specs.Lines.{Line, request, fixed, made, ending, done}
 use Rattle.boot_words.specs.Layout.{code_start, code_address}
+use Rattle.boot_words.specs.Startup.{start_csrs}
 use Rattle.hart_task.specs.Answering.{kind_of, Meets, stream_of, end_word}
+use Rattle.hart_task.specs.Bus.{word_seen}
 
 -- how far a hart is with its request
 pub data Phase : Type 0 where
@@ -27,10 +32,8 @@ pub data Phase : Type 0 where
 
 pub record HartState : Type 0 where
   pub seed : ℕ
-  pub hart : ℕ
-  pub pc : ℕ
-  -- the present value of each register that has one; the others are untouched
-  pub registers : ℕ → Option ℕ
+  -- the hart: of its registers those have a value that a line told, the others are untouched
+  pub machine : Hart
   -- how many words of the hart's stream were drawn
   pub drawn : ℕ
   -- the words made so far, from the first of the window on
@@ -40,13 +43,22 @@ pub record HartState : Type 0 where
   pub count : ℕ
   pub phase : Phase
 
--- before any event: no register has a value but x0
+-- a hart at its start: no register has a value but x0
+abbrev pub first_hart : ℕ → Hart
+first_hart hart = record {
+  number = hart;
+  pc = code_start hart;
+  x = updated (λ q. None) 0 (Some 0);
+  mode = M;
+  csrs = start_csrs hart;
+  reserved = None;
+}
+
+-- before any event
 abbrev pub start : Work → ℕ → ℕ → HartState
 start work seed hart = record {
   seed = seed;
-  hart = hart;
-  pc = code_start hart;
-  registers = updated (λ q. None) 0 (Some 0);
+  machine = first_hart hart;
   drawn = 0;
   words = [];
   left = template_of work hart;
@@ -54,31 +66,51 @@ start work seed hart = record {
   phase = between;
 }
 
--- what a step of the word does at this state, by the registers that have values
-abbrev pub step_of : HartState → ℕ → Option Retired
-step_of s word = retired s.hart s.pc s.pc word s.registers
+-- the word that an effect tells; 0 where it tells none
+abbrev pub effect_word : Effect → ℕ
+effect_word e = unwrap_or e.word 0
 
--- the address after it
-abbrev pub next_of : HartState → ℕ → ℕ
-next_of s word = option_map_or (λ (r : Retired). r.next) (step_of s word) s.pc
+-- what a step of the word does at this state: nothing else is told of memory
+abbrev pub step_of : HartState → ℕ → Option Stepped
+step_of s word = step (word_seen s.machine.pc word) s.machine
 
--- The line tells the step of a new word, which stands right behind those made before.
+-- the hart after it
+abbrev pub hart_after : HartState → ℕ → Hart
+hart_after s word = option_map_or (λ (r : Stepped). r.hart) (step_of s word) s.machine
+
+-- what a step of a word that stands at the hart's pc does, where it leaves memory alone, and takes no trap
+abbrev pub plain_effect : Hart → ℕ → Option (ℕ × ℕ) → Effect
+plain_effect hart word rd = record {
+  hart = hart.number;
+  pc = hart.pc;
+  pa = Some hart.pc;
+  word = Some word;
+  rd = rd;
+  access = None;
+  trail = [];
+  trap = None;
+}
+
+-- The word that stands at the hart's pc makes such a step.
+pub record StepsPlainly (hart : Hart) (word : ℕ) : Type 0 where
+  pub stepped : Stepped
+  pub steps : step (word_seen hart.pc word) hart ≡ Some stepped
+  pub plain : stepped.effect ≡ plain_effect hart word stepped.effect.rd
+
+-- The line tells the step of a new word, which stands right behind those made before. The step leaves memory alone, and
+-- the word names neither mcause nor mtval.
 pub record StepsAt (s : HartState) (e : Effect) : Type 0 where
-  pub effect : step_of s e.word ≡ Some (record { effect = e; next = next_of s e.word })
-  pub place : s.pc ≡ code_address s.hart (length s.words)
-  pub word : e.word < 2 ^ 32
-
--- the registers that have values after a write, or after none
-abbrev pub with_present : (ℕ → Option ℕ) → Option (ℕ × ℕ) → ℕ → Option ℕ
-with_present registers None = registers
-with_present registers (Some w) = updated registers w.0 (Some w.1)
+  pub effect : step_of s (effect_word e) ≡ Some (record { effect = e; hart = hart_after s (effect_word e) })
+  pub plain : e ≡ plain_effect s.machine (effect_word e) e.rd
+  pub place : s.machine.pc ≡ code_address s.machine.number (length s.words)
+  pub word : effect_word e < 2 ^ 32
+  pub closed : names_open_in e.word ≡ false
 
 -- the state after a step
 abbrev pub moved : HartState → Effect → Phase → HartState
 moved s e phase = record s {
-  pc = next_of s e.word;
-  registers = with_present s.registers e.rd;
-  words = s.words ++ e.word ∷ [];
+  machine = hart_after s (effect_word e);
+  words = s.words ++ effect_word e ∷ [];
   phase = phase;
 }
 
@@ -99,11 +131,11 @@ abbrev pub asked : Request → Decoded
 asked (requests.Ins ins pins) = record { ins = ins; ops = record { rd = pins.rd; rs1 = pins.rs1; rs2 = pins.rs2; imm = pins.imm; aqrl = 0 } }
 
 -- those of the registers that have no value yet
-abbrev pub untouched_of : (ℕ → Option ℕ) → List ℕ → List ℕ
+abbrev pub untouched_of : Registers → List ℕ → List ℕ
 untouched_of registers = filter (λ q. is_none (registers q))
 
 -- the request under way reads the register next, of those that have no value yet
-abbrev pub Reads : Phase → (ℕ → Option ℕ) → ℕ → Type 0
+abbrev pub Reads : Phase → Registers → ℕ → Type 0
 Reads between registers register = ⊥
 Reads (begun r) registers register = (others : List ℕ) × (untouched_of registers (sources (asked r)) ≡ register ∷ others)
 Reads stepped registers register = ⊥
@@ -111,10 +143,10 @@ Reads finished registers register = ⊥
 
 -- The line fixes a register that is read next, by the next word of the hart's stream.
 pub record Fixes (s : HartState) (hart register value : ℕ) : Type 0 where
-  pub of_hart : hart ≡ s.hart
-  pub reads : Reads s.phase s.registers register
+  pub of_hart : hart ≡ s.machine.number
+  pub reads : Reads s.phase s.machine.x register
   pub register_is : register < 32
-  pub drawn : value ≡ word_of s.seed (stream_of s.hart) s.drawn
+  pub drawn : value ≡ word_of s.seed (stream_of s.machine.number) s.drawn
   pub small : value < 2 ^ 64
 
 -- the request under way makes the step
@@ -134,16 +166,20 @@ Ends finished left = ⊥
 
 -- No hart writes a line of another kind yet.
 abbrev pub legal : HartState → Line → Type 0
-legal s (request hart k kind) = (hart ≡ s.hart) × (k ≡ s.count) × Begins s.phase s.left kind
+legal s (request hart k kind) = (hart ≡ s.machine.number) × (k ≡ s.count) × Begins s.phase s.left kind
 legal s (fixed hart register value) = Fixes s hart register value
 legal s (made e) = Makes s.phase e × StepsAt s e
-legal s (ending e) = Ends s.phase s.left × (e.word ≡ end_word) × StepsAt s e
-legal s (done hart k) = (hart ≡ s.hart) × (k ≡ s.count) × (s.phase ≡ stepped)
+legal s (ending e) = Ends s.phase s.left × (e.word ≡ Some end_word) × StepsAt s e
+legal s (done hart k) = (hart ≡ s.machine.number) × (k ≡ s.count) × (s.phase ≡ stepped)
 legal s line = ⊥
+
+-- the hart once the register has the value
+abbrev pub with_register : Hart → ℕ → ℕ → Hart
+with_register hart register value = record hart { x = updated hart.x register (Some value) }
 
 abbrev pub after : HartState → Line → HartState
 after s (request hart k kind) = with_begun s s.left
-after s (fixed hart register value) = record s { registers = updated s.registers register (Some value); drawn = s.drawn + 1 }
+after s (fixed hart register value) = record s { machine = with_register s.machine register value; drawn = s.drawn + 1 }
 after s (made e) = moved s e stepped
 after s (ending e) = moved s e finished
 after s (done hart k) = record s { count = s.count + 1; phase = between }

@@ -1,5 +1,5 @@
 -- A hart's task and its log, as runs of the hart's machine.
-use Rattle.std.specs.Prelude.{ℕ, ◌≡◌, ◌+◌, ◌-◌, ◌*◌, ◌≤◌, ◌<◌, ◌⊎◌, List, [], ◌∷◌, ◌++◌, ◌^◌, length, drop, slice_index, Option, Some, None, IsSome}
+use Rattle.std.specs.Prelude.{ℕ, ◌≡◌, ◌+◌, ◌-◌, ◌*◌, ◌≤◌, ◌<◌, ◌⊎◌, List, [], ◌∷◌, ◌++◌, ◌^◌, length, drop, Some, None, IsSome, IsTrue}
 use Rattle.region_plan.specs.declared.request.Request.{Request}
 use Rattle.region_plan.specs.Work.{Work, hart_count, template_of}
 use Rattle.choice_tree.specs.Draws.{Draws, word_of}
@@ -9,9 +9,14 @@ use Rattle.trace_text.specs.Views.{lines_seen}
 use Rattle.world_face.specs.Runs.{Runs}
 use Rattle.world_face.specs.Events.{Log, AddsEvent}
 use Rattle.boot_words.specs.Layout.{code_address}
+use Rattle.rv_fields.specs.declared.mode.Mode.TheVariants.{M}
 use Rattle.rv_fields.specs.Decode.{decoded}
 use Rattle.rv_fields.specs.Effect.{Effect}
-use Rattle.rv_fields.specs.Step.{behind, retired, updated, with_write}
+use Rattle.rv_fields.specs.Hart.{Hart, Registers, updated}
+use Rattle.rv_fields.specs.Laws.{TellsMore, with_registers}
+use Rattle.rv_fields.specs.Memory.{in_ram}
+use Rattle.rv_fields.specs.Step.{behind, step, with_write}
+use Rattle.rv_step.specs.Views.{hart_seen}
 use Rattle.trace_text.specs.Lines.{request, fixed, made, ending, done}
 use Rattle.hart_task.specs.declared.log.HartLog.{HartLog}
 use Rattle.hart_task.specs.declared.log.Turned.{Turned}
@@ -20,7 +25,8 @@ use Rattle.hart_task.specs.declared.task.Phase as task
 use Rattle.hart_task.specs.declared.task.Phase.TheVariants as tasks
 use Rattle.hart_task.specs.declared.task.HartTask.{HartTask}
 use Rattle.hart_task.specs.Answering.{kind_of, stream_of, end_word}
-use Rattle.hart_task.specs.Machine.{HartState, Phase, between, begun, finished, start, legal, after, asked, with_present}
+use Rattle.hart_task.specs.Bus.{word_seen}
+use Rattle.hart_task.specs.Machine.{HartState, Phase, between, begun, finished, start, legal, after, asked, effect_word, plain_effect, with_register}
 
 -- the lines of a log, and the log of a task
 abbrev pub log_lines : HartLog → List Line
@@ -68,22 +74,18 @@ IsNext template count tasks.Finished = Unit {0}
 
 -- a task without where it lies in memory
 pub record TaskSeen : Type 0 where
-  pub number : ℕ
-  pub pc : ℕ
-  pub x : List ℕ
+  pub hart : Hart
   pub phase : task.Phase
   pub done : ℕ
   pub draws : Draws
-  pub initial : ℕ → Option ℕ
-  pub present : ℕ → Option ℕ
+  pub initial : Registers
+  pub present : Registers
   pub log : Log
   pub words : List ℕ
 
 abbrev pub task_seen : HartTask → TaskSeen
 task_seen t = record {
-  number = t.hart.number;
-  pc = t.hart.pc;
-  x = t.hart.x;
+  hart = hart_seen t.hart;
   phase = t.phase;
   done = t.done;
   draws = t.draws;
@@ -95,27 +97,26 @@ task_seen t = record {
 
 -- The task stands at a state of the hart's machine.
 pub record Stands (work : Work) (t : TaskSeen) (s : HartState) : Type 0 where
-  pub run : Runs legal after (start work t.draws.seed t.number) t.log.lines s
-  pub hart : s.hart ≡ t.number
-  pub member : t.number < hart_count work
-  pub pc : s.pc ≡ t.pc
-  -- x0 has a value, and the hart's registers are those that have one
+  pub run : Runs legal after (start work t.draws.seed t.hart.number) t.log.lines s
+  pub member : t.hart.number < hart_count work
+  -- the state's hart is the task's, of whose registers those are told that have a value
+  pub machine : s.machine ≡ with_registers t.present t.hart
+  pub held : TellsMore t.present t.hart.x
   pub zero : t.present 0 ≡ Some 0
-  pub registers : s.registers ≡ t.present
-  pub held : (r v : ℕ) → t.present r ≡ Some v → slice_index t.x r ≡ v
+  pub mode : t.hart.mode ≡ M
   -- what the lines fix was drawn, and no more
-  pub initial : (r : ℕ) → t.initial r ≡ starting t.log.lines t.number r
-  pub draws : t.draws ≡ record { seed = s.seed; stream = stream_of t.number; drawn = s.drawn }
+  pub initial : (r : ℕ) → t.initial r ≡ starting t.log.lines t.hart.number r
+  pub draws : t.draws ≡ record { seed = s.seed; stream = stream_of t.hart.number; drawn = s.drawn }
   pub few : t.draws.drawn ≤ length t.log.lines
   pub phase : s.phase ≡ phase_seen t.phase
   pub count : s.count ≡ t.done
-  pub left : s.left ≡ drop (begun_count t.phase t.done) (template_of work t.number)
-  pub request : IsNext (template_of work t.number) t.done t.phase
-  pub many : begun_count t.phase t.done ≤ length (template_of work t.number)
+  pub left : s.left ≡ drop (begun_count t.phase t.done) (template_of work t.hart.number)
+  pub request : IsNext (template_of work t.hart.number) t.done t.phase
+  pub many : begun_count t.phase t.done ≤ length (template_of work t.hart.number)
   pub words : s.words ≡ t.words
   pub made : length t.words ≡ word_count t.phase t.done
   -- the pc is at the word of the first request that isn't done, or at the ending one
-  pub place : t.pc ≡ code_address t.number t.done
+  pub place : t.hart.pc ≡ code_address t.hart.number t.done
 
 -- The task is one of the job's: its log so far is a run of its hart's machine.
 pub record IsTaskOf (work : Work) (t : HartTask) : Type 0 where
@@ -143,8 +144,8 @@ pub record BeginsRequest (r : Request) (old new : TaskSeen) : Type 0 where
   pub task : new ≡ record old {
     phase = tasks.Begun r;
     log = record {
-      lines = old.log.lines ++ request old.number old.done (kind_of r) ∷ [];
-      ends = old.log.ends ++ length (old.log.lines ++ request old.number old.done (kind_of r) ∷ []) ∷ [];
+      lines = old.log.lines ++ request old.hart.number old.done (kind_of r) ∷ [];
+      ends = old.log.ends ++ length (old.log.lines ++ request old.hart.number old.done (kind_of r) ∷ []) ∷ [];
     };
   }
 
@@ -155,38 +156,39 @@ pub record FixesSource (register : ℕ) (old new : TaskSeen) : Type 0 where
   pub value : ℕ
   pub drawn : value ≡ word_of old.draws.seed old.draws.stream old.draws.drawn
   pub small : value < 2 ^ 64
-  pub x : (λ r. slice_index new.x r) ≡ updated (λ r. slice_index old.x r) register value
   pub task : new ≡ record old {
-    x = new.x;
+    hart = with_register old.hart register value;
     draws = record { seed = old.draws.seed; stream = old.draws.stream; drawn = old.draws.drawn + 1 };
     initial = updated old.initial register (Some value);
     present = updated old.present register (Some value);
-    log = record { lines = old.log.lines ++ fixed old.number register value ∷ []; ends = old.log.ends };
+    log = record { lines = old.log.lines ++ fixed old.hart.number register value ∷ []; ends = old.log.ends };
   }
 
 -- the register gets a value, if it has none
 abbrev pub ReadsSource : ℕ → TaskSeen → TaskSeen → Type 0
 ReadsSource register old new = (IsSome (old.present register) × (new ≡ old)) ⊎ FixesSource register old new
 
--- A step of a word retires: its effect, the next pc, and the registers after it.
+-- The hart steps a word that stands at its pc: its effect, and the task after it.
 pub record StepsWord (old new : TaskSeen) (e : Effect) : Type 0 where
-  pub small : e.word < 2 ^ 32
-  pub retires : retired old.number old.pc old.pc e.word (λ r. Some (slice_index old.x r)) ≡ Some (record { effect = e; next = new.pc })
-  pub x : (λ r. slice_index new.x r) ≡ with_write (λ r. slice_index old.x r) e.rd
-  pub present : new.present ≡ with_present old.present e.rd
+  pub small : effect_word e < 2 ^ 32
+  pub in_it : IsTrue (in_ram old.hart.pc 4)
+  pub steps : step (word_seen old.hart.pc (effect_word e)) old.hart ≡ Some (record { effect = e; hart = new.hart })
+  pub plain : e ≡ plain_effect old.hart (effect_word e) e.rd
+  pub mode : new.hart.mode ≡ old.hart.mode
+  pub present : new.present ≡ with_write old.present e.rd
   pub initial : new.initial ≡ old.initial
   pub draws : new.draws ≡ old.draws
 
 -- the request makes its word, and is done
 pub record MakesStep (r : Request) (old new : TaskSeen) : Type 0 where
   pub effect : Effect
-  pub word : decoded effect.word ≡ Some (asked r)
-  pub next : new.pc ≡ behind old.pc
+  pub word : decoded (effect_word effect) ≡ Some (asked r)
+  pub next : new.hart.pc ≡ behind old.hart.pc
   pub steps : StepsWord old new effect
-  pub lines : new.log.lines ≡ old.log.lines ++ made effect ∷ done old.number old.done ∷ []
+  pub lines : new.log.lines ≡ old.log.lines ++ made effect ∷ done old.hart.number old.done ∷ []
   pub ends : new.log.ends ≡ old.log.ends ++ length new.log.lines ∷ []
-  pub words : new.words ≡ old.words ++ effect.word ∷ []
-  pub number : new.number ≡ old.number
+  pub words : new.words ≡ old.words ++ effect_word effect ∷ []
+  pub number : new.hart.number ≡ old.hart.number
   pub phase : new.phase ≡ tasks.Between
   pub count : new.done ≡ old.done + 1
 
@@ -198,19 +200,19 @@ pub record MakesWord (r : Request) (old new : TaskSeen) : Type 0 where
   pub reads_rs2 : ReadsSource (asked r).ops.rs2 first second
   pub makes : MakesStep r second new
   pub event : AddsEvent old.log new.log (length old.log.ends)
-  pub number : new.number ≡ old.number
+  pub number : new.hart.number ≡ old.hart.number
   pub seed : new.draws.seed ≡ old.draws.seed
   pub count : new.done ≡ old.done + 1
 
 -- the hart makes its ending step
 pub record MakesEnd (old new : TaskSeen) : Type 0 where
   pub effect : Effect
-  pub word : effect.word ≡ end_word
-  pub next : new.pc ≡ old.pc
+  pub word : effect.word ≡ Some end_word
+  pub next : new.hart.pc ≡ old.hart.pc
   pub steps : StepsWord old new effect
   pub lines : new.log.lines ≡ old.log.lines ++ ending effect ∷ []
   pub ends : new.log.ends ≡ old.log.ends ++ length new.log.lines ∷ []
-  pub words : new.words ≡ old.words ++ effect.word ∷ []
-  pub number : new.number ≡ old.number
+  pub words : new.words ≡ old.words ++ effect_word effect ∷ []
+  pub number : new.hart.number ≡ old.hart.number
   pub phase : new.phase ≡ tasks.Finished
   pub count : new.done ≡ old.done

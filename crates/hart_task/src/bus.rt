@@ -1,9 +1,15 @@
-ghost use Rattle.std.specs.Prelude.{IsTrue};
+ghost use Rattle.std.specs.Prelude.{◌≡◌, IsTrue};
 ghost use Rattle.rv_fields.specs.Memory.{in_ram};
 
-use rv_step::Bus;
+use rv_step::{Bus, PteAt, PteSource};
 
-/// Memory of which no more than one word is known, which stands in RAM.
+/// The first address of RAM.
+const RAM_START: u64 = 0x8000_0000;
+
+/// The first address past RAM.
+const RAM_END: u64 = 0x9000_0000;
+
+/// Memory of which no more than one word is known, which stands in RAM. It has no room for a store or a link.
 #[derive(Drop)]
 pub struct OneWord {
     pub at: u64,
@@ -11,12 +17,61 @@ pub struct OneWord {
     ghost in_ram: { IsTrue (in_ram at 4) },
 }
 
+impl PteSource for OneWord {
+    ghost use Rattle.rv_fields.specs.Sv39.{entries_in};
+    ghost use Rattle.hart_task.specs.Bus.{word_seen};
+
+    ghost entries = { λ b. entries_in (word_seen b.at b.word).byte };
+
+    fn pte(&self, at: u64) -> PteAt {
+        if is_in_ram(at, 8) {
+            PteAt::Unfixed
+        } else {
+            PteAt::Absent
+        }
+    }
+}
+
 impl Bus for OneWord {
+    ghost use Rattle.std.specs.Prelude.{refl};
     ghost use Rattle.hart_task.specs.Bus.{word_seen};
 
     ghost seen = { λ b. word_seen b.at b.word };
 
+    ghost has_room = { λ b. λ pa. ⊥ };
+
     fn fetch(&self, pa: u64) -> Option<u32> {
         (pa == self.at).then_some(self.word)
     }
+
+    fn load(&self, pa: u64, size: u8) -> Option<u64> {
+        if !is_in_ram(pa, size) {
+            return None;
+        }
+        let behind = u64::from(self.word) >> (8 * (pa - self.at));
+        match size {
+            1 => Some(behind % 0x100),
+            2 => Some(behind % 0x1_0000),
+            _ => Some(behind),
+        }
+    }
+
+    fn store(&mut self, _hart: u8, _pa: u64, _size: u8, _value: u64) -> bool {
+        false
+    }
+
+    fn link(&mut self, _hart: u8, _pa: u64) {}
+
+    fn linked(&self, _hart: u8, _pa: u64) -> bool {
+        false
+    }
+
+    ghost tells_entries = { λ b. refl };
+}
+
+/// Whether so many bytes from the address on lie in RAM.
+fn is_in_ram(at: u64, size: u8) -> bool
+    ensures { result ≡ in_ram at size }
+{
+    RAM_START <= at && at <= RAM_END && u64::from(size) <= RAM_END - at
 }

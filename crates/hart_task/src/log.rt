@@ -1,8 +1,8 @@
 ghost use Rattle.std.specs.Prelude.{◌≡◌, ℕ, ◌+◌, ◌++◌, ◌∷◌, [], ◌<◌, length, vec_len, vec_capacity, OnOk, IfSome, Some, None};
 ghost use Rattle.std.specs.Option.{option_to_list};
-ghost use Rattle.rv_fields.specs.Step.{updated};
+ghost use Rattle.rv_fields.specs.Hart.{updated};
+ghost use Rattle.rv_fields.specs.Step.{with_write};
 ghost use Rattle.value_file.specs.Values.{initial_of, present_of};
-ghost use Rattle.hart_task.specs.Machine.{with_present};
 
 use rv_fields::NoMemory;
 use trace_text::Line;
@@ -71,7 +71,7 @@ impl HartLog {
     /// Notes the register that a step wrote, if it wrote one.
     pub fn write(&mut self, rd: Option<(u8, u64)>)
         requires { IfSome rd (λ w. (0 < w.0) × (w.0 < 32)) }
-        ensures written { whole_of self.new ≡ record (whole_of self.old) { present = with_present (present_of self.old.values) rd } }
+        ensures written { whole_of self.new ≡ record (whole_of self.old) { present = with_write (present_of self.old.values) rd } }
         ensures room { (count : ℕ) → HasRoom count self.old → HasRoom count self.new }
     {
         if let Some((register, value)) = rd {

@@ -1,10 +1,12 @@
-ghost use Rattle.std.specs.Prelude.{◌≡◌, ◌<◌, IsTrue, IsSome, IfSome, Some, slice_index};
+ghost use Rattle.std.specs.Prelude.{◌≡◌, ◌<◌, IsTrue, IfSome, Some, slice_index};
 ghost use Rattle.rv_fields.specs.Decode.{decoded};
 ghost use Rattle.rv_fields.specs.Memory.{in_ram};
-ghost use Rattle.rv_fields.specs.Step.{retired, with_write};
+ghost use Rattle.rv_fields.specs.Step.{step};
 ghost use Rattle.region_plan.specs.Rules.{IsMakeable};
 ghost use Rattle.trace_text.specs.Views.{effect_seen};
-ghost use Rattle.hart_task.specs.Machine.{asked};
+ghost use Rattle.rv_step.specs.Views.{hart_seen};
+ghost use Rattle.hart_task.specs.Bus.{word_seen};
+ghost use Rattle.hart_task.specs.Machine.{StepsPlainly, asked};
 
 use crate::bus::OneWord;
 use region_plan::Request;
@@ -47,21 +49,20 @@ pub fn word_of(request: Request) -> u32
 pub fn step_word(hart: &mut Hart, word: u32) -> StepLine
     requires zero { slice_index hart.old.x 0 ≡ 0 }
     requires in_ram { IsTrue (in_ram hart.old.pc 4) }
-    requires retires { IsSome (retired hart.old.number hart.old.pc hart.old.pc word (λ r. Some (slice_index hart.old.x r))) }
-    ensures retires { retired hart.old.number hart.old.pc hart.old.pc word (λ r. Some (slice_index hart.old.x r))
-        ≡ Some (record { effect = effect_seen result; next = hart.new.pc }) }
-    ensures x { (λ r. slice_index hart.new.x r) ≡ with_write (λ r. slice_index hart.old.x r) result.rd }
-    ensures number { hart.new.number ≡ hart.old.number }
+    requires plain { StepsPlainly (hart_seen hart.old) word }
+    ensures step { step (word_seen hart.old.pc word) (hart_seen hart.old)
+        ≡ Some (record { effect = effect_seen result; hart = hart_seen hart.new }) }
     ensures register { IfSome result.rd (λ w. (0 < w.0) × (w.0 < 32)) }
     ensures zero { slice_index hart.new.x 0 ≡ 0 }
 {
-    let bus = OneWord { at: hart.pc, word };
-    let stepped = step(hart, &bus);
+    let pc = hart.pc;
+    let mut bus = OneWord { at: pc, word };
+    let stepped = step(hart, &mut bus);
     StepLine {
         hart: hart.number,
-        pc: stepped.pc,
-        pa: stepped.pa,
-        word: stepped.word,
+        pc,
+        pa: pc,
+        word,
         rd: stepped.rd,
         access: None,
         trail: TrailText::new(),

@@ -6,10 +6,10 @@ ghost use Rattle.hart_task.specs.Answering.{kind_of, stream_of};
 
 use crate::log::{HartLog, Turned};
 use crate::stepping::{ops_of, step_word, word_of};
-use boot_words::code_start;
+use boot_words::{code_start, start_csrs};
 use choice_tree::DrawWords;
 use region_plan::{Job, Request};
-use rv_fields::{NoMemory, Ops};
+use rv_fields::{Mode, NoMemory, Ops};
 use rv_step::Hart;
 use std::alloc::Global;
 use trace_text::{Kind, Line};
@@ -58,6 +58,9 @@ impl HartTask {
                 number: hart,
                 pc: code_start(hart),
                 x: [0; 32],
+                mode: Mode::M,
+                csrs: start_csrs(hart),
+                reserved: None,
             },
             phase: Phase::Between,
             done: 0,
@@ -137,6 +140,7 @@ impl HartTask {
     fn make(&mut self, request: Request) -> Result<Turned, NoMemory>
         requires makeable { IsMakeable request }
         requires zero { slice_index self.old.hart.x 0 ≡ 0 }
+        requires mode { self.old.hart.mode ≡ Mode.M }
         requires in_ram { IsTrue (in_ram self.old.hart.pc 4) }
         requires count { self.old.done < 1000 }
         requires few { self.old.draws.drawn ≤ length self.old.log.lines.items }
@@ -181,6 +185,7 @@ impl HartTask {
 
     fn end(&mut self) -> Result<Turned, NoMemory>
         requires zero { slice_index self.old.hart.x 0 ≡ 0 }
+        requires mode { self.old.hart.mode ≡ Mode.M }
         requires in_ram { IsTrue (in_ram self.old.hart.pc 4) }
         requires aligned { self.old.hart.pc % 4 ≡ 0 }
         ensures makes { OnOk result (MakesEnd (task_seen self.old) (task_seen self.new)) }

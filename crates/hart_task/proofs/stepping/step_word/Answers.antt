@@ -1,26 +1,22 @@
--- The bus tells the word at pc, so a step is what the word does when it retires.
-use Rattle.std.proofs.Common.{Some, sym, ◌∙◌}
-use Rattle.rv_step.specs.Views.{hart_seen, effect_seen as effect_seen_by}
-use Rattle.hart_task.specs.Bus.{word_seen}
-use Rattle.hart_task.proofs.Retiring.{is_step, did, Did, own_word_told}
+-- The bus tells the word at pc, so a step is what the word does; and a plain one is what its line tells.
+use Rattle.std.proofs.Common.{Some, ap, sym, ◌∙◌}
+use Rattle.rv_step.specs.Views.{hart_seen, stepped_seen}
+use Rattle.hart_task.specs.Machine.{plain_effect}
+use Rattle.hart_task.proofs.Retiring.{plain_is, plain_room, plain_told}
 use Rattle.hart_task.proofs.stepping.step_word.Goals as goal
 
 pub step-stepped-requires-clause-told : goal.step-stepped-requires-clause-told
-step-stepped-requires-clause-told c = is_step (word_seen c.args.hart.now.pc c.args.word) (hart_seen c.args.hart.now) c.args.word
-    (own_word_told c.args.hart.now.pc c.args.word c.requires.in_ram c.ranges.word.fits) c.requires.retires
+step-stepped-requires-clause-told c = plain_told (hart_seen c.args.hart.now) c.args.word c.requires.plain
 
-what : (c : goal.After-new) → Did (hart_seen c.args.hart.now) c.args.word (effect_seen_by c.args.hart.now.number c.step-stepped.result) (hart_seen c.step-stepped.new.hart)
-what c = did (word_seen c.args.hart.now.pc c.args.word) (hart_seen c.args.hart.now) c.args.word (effect_seen_by c.args.hart.now.number c.step-stepped.result)
-    (hart_seen c.step-stepped.new.hart) (own_word_told c.args.hart.now.pc c.args.word c.requires.in_ram c.ranges.word.fits) c.step-stepped.ensures.step
+pub step-stepped-requires-clause-room : goal.step-stepped-requires-clause-room
+step-stepped-requires-clause-room c = plain_room _ (hart_seen c.args.hart.now) c.args.word c.requires.plain
 
-pub returns-clause-retires : goal.returns-clause-retires
-returns-clause-retires c = (what c).retires ∙ (λ i. Some (record {
-  effect = record (effect_seen_by (sym (what c).number i) c.step-stepped.result) { trail = sym c.new.ensures i };
-  next = c.step-stepped.new.hart.pc;
-}))
-
-pub returns-clause-x : goal.returns-clause-x
-returns-clause-x c = (what c).x
-
-pub returns-clause-number : goal.returns-clause-number
-returns-clause-number c = (what c).number
+pub returns-clause-step : goal.returns-clause-step
+returns-clause-step c =
+    let step = c.step-stepped in
+    let plain = plain_is (hart_seen c.args.hart.now) c.args.word (stepped_seen step.new.hart step.result) c.requires.plain step.ensures.step in
+    step.ensures.step ∙ ap (λ e. Some (record { effect = e; hart = hart_seen step.new.hart })) plain
+    ∙ (λ i. Some (record {
+      effect = record (plain_effect (hart_seen c.args.hart.now) c.args.word step.result.rd) { hart = sym step.ensures.number i; trail = sym c.new.ensures i };
+      hart = hart_seen step.new.hart;
+    }))
