@@ -6,17 +6,24 @@ use Rattle.std.specs.Option.{option_map_or}
 use Rattle.std.proofs.lemmas.Bool.{cases_eq, ne_eqb}
 use Rattle.std.proofs.lemmas.List.Folds.{list_any-append}
 use Rattle.std.proofs.lemmas.List.Sums.{sum_by-append}
-use Rattle.rv_fields.specs.Decode.{Decoded, decoded, sources}
+use Rattle.rv_fields.specs.declared.row_table.Form.{Form}
+use Rattle.rv_fields.specs.declared.row_table.Form.TheVariants.{K}
+use Rattle.rv_fields.specs.declared.row_table.Ops.{Ops}
+use Rattle.rv_fields.specs.Attempt.{◌>>=◌}
+use Rattle.rv_fields.specs.Decode.{Decoded, decoded, rs1_of_form, rs1_read, sources}
 use Rattle.rv_fields.specs.Effect.{Effect}
-use Rattle.rv_fields.specs.Step.{updated}
+use Rattle.rv_fields.specs.Hart.{Registers, updated}
+use Rattle.rv_fields.specs.RowTable.{form_of}
+use Rattle.rv_fields.specs.Step.{with_write}
 use Rattle.region_plan.specs.declared.request.Request.{Request}
 use Rattle.region_plan.specs.declared.request.Request.TheVariants as requests
 use Rattle.choice_tree.specs.Draws.{word_of}
 use Rattle.trace_text.specs.Lines.{Line, request, fixed, made, ending, done}
 use Rattle.world_face.specs.Runs.{Runs}
 use Rattle.hart_task.specs.Answering.{kind_of, Meets, writes, touches, is_untouched, is_fixing, stream_of, fixings, sources_in, late_lines, block, AnswersFrom}
-use Rattle.hart_task.specs.Machine.{HartState, Phase, between, begun, stepped, finished, legal, after, with_begun, asked, untouched_of, Begins, Reads, Fixes, Makes, Ends, StepsAt, with_present, moved}
-use Rattle.hart_task.proofs.Retiring.{sources_told}
+use Rattle.hart_task.specs.Machine.{HartState, Phase, between, begun, stepped, finished, legal, after, with_begun, asked, untouched_of, Begins, Reads, Fixes, Makes, Ends, StepsAt, effect_word, hart_after, moved}
+use Rattle.hart_task.specs.Bus.{word_seen}
+use Rattle.hart_task.proofs.Retiring.{number_after, registers_after, sources_told}
 
 -- ---- registers that have no value, and those that no line has touched
 
@@ -69,20 +76,20 @@ named_updated f before l place value is named r =
     miss e = ap (λ b. cond b (Some value) (f r)) (turned place r e)
 
 named_written : (f : ℕ → Option ℕ) (before : List Line) (l : Line) (rd : Option (ℕ × ℕ)) → ((r : ℕ) → touches r l ≡ writes r rd) → Named f before
-    → Named (with_present f rd) (before ++ l ∷ [])
+    → Named (with_write f rd) (before ++ l ∷ [])
 named_written f before l None is named = named_kept f before l is named
 named_written f before l (Some w) is named = named_updated f before l w.0 w.1 is named
 
 -- ---- what is read next
 
 -- the sources without values are those that no line has touched
-sources_named : (registers : ℕ → Option ℕ) (before : List Line) (rs : List ℕ) → Named registers before → filter (is_untouched before) rs ≡ untouched_of registers rs
+sources_named : (registers : Registers) (before : List Line) (rs : List ℕ) → Named registers before → filter (is_untouched before) rs ≡ untouched_of registers rs
 sources_named registers before rs named = sym (ap (λ p. filter p rs) (λ i. λ r. named r i))
 
 -- once the first has a value, the others are left
-others_left : (registers : ℕ → Option ℕ) (d : Decoded) (register value : ℕ) (others : List ℕ) → untouched_of registers (sources d) ≡ register ∷ others
+others_left : (registers : Registers) (d : Decoded) (register value : ℕ) (others : List ℕ) → untouched_of registers (sources d) ≡ register ∷ others
     → untouched_of (updated registers register (Some value)) (sources d) ≡ others
-others_left registers d register value others is = by (eqb d.ops.rs1 d.ops.rs2) refl is
+others_left registers d register value others is = by (eqb (rs1_read d) d.ops.rs2) refl is
   where
     now : ℕ → Option ℕ
     now = updated registers register (Some value)
@@ -125,25 +132,34 @@ others_left registers d register value others is = by (eqb d.ops.rs1 d.ops.rs2) 
         rw none (rw drops rest)
     two a b false false u v differ ep eq eu ev h = absurd cc
 
-    by : (b : Bool) → b ≡ eqb d.ops.rs1 d.ops.rs2
-        → untouched_of registers (cond b (d.ops.rs1 ∷ []) (d.ops.rs1 ∷ d.ops.rs2 ∷ [])) ≡ register ∷ others
-        → untouched_of now (cond b (d.ops.rs1 ∷ []) (d.ops.rs1 ∷ d.ops.rs2 ∷ [])) ≡ others
-    by true e h = one d.ops.rs1 _ _ refl refl h
-    by false e h = two d.ops.rs1 d.ops.rs2 _ _ _ _ (λ same. let t = eq-eqb d.ops.rs1 d.ops.rs2 same in cc) refl refl refl refl h
+    by : (b : Bool) → b ≡ eqb (rs1_read d) d.ops.rs2
+        → untouched_of registers (cond b (rs1_read d ∷ []) (rs1_read d ∷ d.ops.rs2 ∷ [])) ≡ register ∷ others
+        → untouched_of now (cond b (rs1_read d ∷ []) (rs1_read d ∷ d.ops.rs2 ∷ [])) ≡ others
+    by true e h = one (rs1_read d) _ _ refl refl h
+    by false e h = two (rs1_read d) d.ops.rs2 _ _ _ _ (λ same. let t = eq-eqb (rs1_read d) d.ops.rs2 same in cc) refl refl refl refl h
 
 -- where both have values, none is left
-none_left : (registers : ℕ → Option ℕ) (d : Decoded) → is_none (registers d.ops.rs1) ≡ false → is_none (registers d.ops.rs2) ≡ false
+none_left : (registers : Registers) (d : Decoded) → is_none (registers (rs1_read d)) ≡ false → is_none (registers d.ops.rs2) ≡ false
     → untouched_of registers (sources d) ≡ []
-none_left registers d first second = by (eqb d.ops.rs1 d.ops.rs2)
+none_left registers d first second = by (eqb (rs1_read d) d.ops.rs2)
   where
-    by : (b : Bool) → untouched_of registers (cond b (d.ops.rs1 ∷ []) (d.ops.rs1 ∷ d.ops.rs2 ∷ [])) ≡ []
+    by : (b : Bool) → untouched_of registers (cond b (rs1_read d ∷ []) (rs1_read d ∷ d.ops.rs2 ∷ [])) ≡ []
     by true = rw first refl
     by false = rw first (rw second refl)
+
+-- of the operands a form reads rs1 alone as such
+rs1_alike : (form : Form) (a b : Ops) → a.rs1 ≡ b.rs1 → rs1_of_form form a ≡ rs1_of_form form b
+rs1_alike K a b same = refl
+rs1_alike form a b same = same
 
 -- a made word reads what the request asks
 sources_met : (r : Request) (e : Effect) → Meets r e → sources_in e.word ≡ sources (asked r)
 sources_met (requests.Ins ins pins) e meets =
-    ap (λ o. option_map_or sources o []) meets.1 ∙ ap (λ a. of a (meets.0.ops.rs2)) meets.2.rs1 ∙ ap (λ b. of pins.rs1 b) meets.2.rs2
+    let d : Decoded = meets.0 in
+    let wanted : Decoded = asked (requests.Ins ins pins) in
+    let first : rs1_read d ≡ rs1_read wanted =
+    ap (λ i. rs1_of_form (form_of i) d.ops) meets.2.ins ∙ rs1_alike (form_of ins) d.ops wanted.ops meets.2.rs1 in
+    ap (λ o. option_map_or sources o []) meets.1 ∙ ap (λ a. of a (meets.0.ops.rs2)) first ∙ ap (λ b. of (rs1_read wanted) b) meets.2.rs2
   where
     of : ℕ → ℕ → List ℕ
     of a b = cond (eqb a b) (a ∷ []) (a ∷ b ∷ [])
@@ -167,10 +183,10 @@ Answering finished seed hart count left before lines = lines ≡ []
 record At (s : HartState) (p : Phase) (seed h count : ℕ) (rs : List Request) (before : List Line) : Type 0 where
   phase : s.phase ≡ p
   seed_is : s.seed ≡ seed
-  hart : s.hart ≡ h
+  hart : s.machine.number ≡ h
   done : s.count ≡ count
   left : s.left ≡ rs
-  named : Named s.registers before
+  named : Named s.machine.x before
   drawn : s.drawn ≡ count_by is_fixing before
 
 -- a line more, which fixes nothing
@@ -189,50 +205,50 @@ at_begun s r seed h count rs before l none free at =
       hart = at.hart;
       done = at.done;
       left = refl;
-      named = named_kept s.registers before l none at.named;
+      named = named_kept s.machine.x before l none at.named;
       drawn = still_drawn before l s.drawn free at.drawn;
     })
 
 -- the late lines behind the request's own line are those behind the lines before it
-same_late : (seed h : ℕ) (before : List Line) (l : Line) (s : HartState) (word : ℕ) → Named s.registers before → Named s.registers (before ++ l ∷ [])
+same_late : (seed h : ℕ) (before : List Line) (l : Line) (s : HartState) (word : Option ℕ) → Named s.machine.x before → Named s.machine.x (before ++ l ∷ [])
     → s.drawn ≡ count_by is_fixing before → s.drawn ≡ count_by is_fixing (before ++ l ∷ [])
     → late_lines seed h (before ++ l ∷ []) word ≡ late_lines seed h before word
 same_late seed h before l s word old new drawn drawn_more =
     ap (λ n. fixings seed h n (filter (is_untouched (before ++ l ∷ [])) (sources_in word))) (sym drawn_more ∙ drawn)
-    ∙ ap (λ rs. fixings seed h (count_by is_fixing before) rs) (sources_named s.registers (before ++ l ∷ []) (sources_in word) new ∙ sym (sources_named s.registers before (sources_in word) old))
+    ∙ ap (λ rs. fixings seed h (count_by is_fixing before) rs) (sources_named s.machine.x (before ++ l ∷ []) (sources_in word) new ∙ sym (sources_named s.machine.x before (sources_in word) old))
 
 -- a late line in front: the others stand behind it
 late_next : (seed h register value : ℕ) (before : List Line) (s : HartState) (r : Request) (e : Effect) (others : List ℕ)
-    → Named s.registers before → s.drawn ≡ count_by is_fixing before → Meets r e
-    → untouched_of s.registers (sources (asked r)) ≡ register ∷ others → value ≡ word_of seed (stream_of h) s.drawn
-    → Named (updated s.registers register (Some value)) (before ++ fixed h register value ∷ []) → s.drawn + 1 ≡ count_by is_fixing (before ++ fixed h register value ∷ [])
+    → Named s.machine.x before → s.drawn ≡ count_by is_fixing before → Meets r e
+    → untouched_of s.machine.x (sources (asked r)) ≡ register ∷ others → value ≡ word_of seed (stream_of h) s.drawn
+    → Named (updated s.machine.x register (Some value)) (before ++ fixed h register value ∷ []) → s.drawn + 1 ≡ count_by is_fixing (before ++ fixed h register value ∷ [])
     → late_lines seed h before e.word ≡ fixed h register value ∷ late_lines seed h (before ++ fixed h register value ∷ []) e.word
 late_next seed h register value before s r e others named drawn meets reads drawn_is named_more drawn_more =
     let x : Line = fixed h register value in
     let all : filter (is_untouched before) (sources_in e.word) ≡ register ∷ others =
-    ap (filter (is_untouched before)) (sources_met r e meets) ∙ sources_named s.registers before (sources (asked r)) named ∙ reads in
+    ap (filter (is_untouched before)) (sources_met r e meets) ∙ sources_named s.machine.x before (sources (asked r)) named ∙ reads in
     let rest : filter (is_untouched (before ++ x ∷ [])) (sources_in e.word) ≡ others =
-    ap (filter (is_untouched (before ++ x ∷ []))) (sources_met r e meets) ∙ sources_named (updated s.registers register (Some value)) (before ++ x ∷ []) (sources (asked r)) named_more
-    ∙ others_left s.registers (asked r) register value others reads in
+    ap (filter (is_untouched (before ++ x ∷ []))) (sources_met r e meets) ∙ sources_named (updated s.machine.x register (Some value)) (before ++ x ∷ []) (sources (asked r)) named_more
+    ∙ others_left s.machine.x (asked r) register value others reads in
     ap (fixings seed h (count_by is_fixing before)) all ∙ ap (λ n. fixings seed h n (register ∷ others)) (sym drawn)
     ∙ ap (λ v. fixed h register v ∷ fixings seed h (s.drawn + 1) others) (sym drawn_is)
     ∙ ap (λ n. x ∷ fixings seed h n others) drawn_more
     ∙ ap (λ rs. x ∷ fixings seed h (count_by is_fixing (before ++ x ∷ [])) rs) (sym rest)
 
 -- no late line where the step retires
-late_none : (seed h : ℕ) (before : List Line) (s : HartState) (r : Request) (e : Effect) → Named s.registers before → Meets r e → StepsAt s e
+late_none : (seed h : ℕ) (before : List Line) (s : HartState) (r : Request) (e : Effect) → Named s.machine.x before → Meets r e → StepsAt s e
     → late_lines seed h before e.word ≡ []
 late_none seed h before s r e named meets at =
-    let told = sources_told s.hart s.pc s.pc e.word (decoded_of r e meets) s.registers _ at.effect (decoded_is r e meets) in
+    let told = sources_told (word_seen s.machine.pc (effect_word e)) s.machine _ (decoded_of r e meets) at.effect (decoded_is r e meets) in
     let none : filter (is_untouched before) (sources_in e.word) ≡ [] =
-    ap (filter (is_untouched before)) (in_word r e meets) ∙ sources_named s.registers before (sources (decoded_of r e meets)) named
-    ∙ none_left s.registers (decoded_of r e meets) told.0 told.1 in
+    ap (filter (is_untouched before)) (in_word r e meets) ∙ sources_named s.machine.x before (sources (decoded_of r e meets)) named
+    ∙ none_left s.machine.x (decoded_of r e meets) told.0 told.1 in
     ap (fixings seed h (count_by is_fixing before)) none
   where
     decoded_of : (r : Request) (e : Effect) → Meets r e → Decoded
     decoded_of (requests.Ins ins pins) e meets = meets.0
 
-    decoded_is : (r : Request) (e : Effect) (meets : Meets r e) → decoded e.word ≡ Some (decoded_of r e meets)
+    decoded_is : (r : Request) (e : Effect) (meets : Meets r e) → (e.word >>= decoded) ≡ Some (decoded_of r e meets)
     decoded_is (requests.Ins ins pins) e meets = meets.1
 
     in_word : (r : Request) (e : Effect) (meets : Meets r e) → sources_in e.word ≡ sources (decoded_of r e meets)
@@ -256,7 +272,7 @@ answering (request h' k kind ∷ ls) s end between seed h count (r ∷ rs) befor
     ap (λ q. request q k kind) (run.0.0 ∙ at.hart) ∙ ap (λ q. request h q kind) (run.0.1 ∙ at.done) ∙ ap (request h count) is_kind in
     let e : Effect = more.0 in
     let late : late_lines seed h (before ++ line ∷ []) e.word ≡ late_lines seed h before e.word =
-    same_late seed h before line s e.word at.named (named_kept s.registers before line (λ q. refl) at.named) at.drawn (still_drawn before line s.drawn refl at.drawn) in
+    same_late seed h before line s e.word at.named (named_kept s.machine.x before line (λ q. refl) at.named) at.drawn (still_drawn before line s.drawn refl at.drawn) in
     let tail : tail_of seed h count (before ++ line ∷ []) e ≡ tail_of seed h count before e = ap (λ xs. xs ++ made e ∷ done h count ∷ []) late in
     let whole : line ∷ tail_of seed h count (before ++ line ∷ []) e ≡ block seed h count r before e =
     ap (λ l. l ∷ tail_of seed h count (before ++ line ∷ []) e) line_is ∙ ap (λ t. request h count (kind_of r) ∷ t) tail in (
@@ -270,21 +286,21 @@ answering (request h' k kind ∷ ls) s end between seed h count (r ∷ rs) befor
 answering (request h' k kind ∷ ls) s end (begun r) seed h count rs before at run fin = absurd (subst (λ q. Begins q s.left kind) at.phase run.0.2)
 answering (request h' k kind ∷ ls) s end stepped seed h count rs before at run fin = absurd (subst (λ q. Begins q s.left kind) at.phase run.0.2)
 answering (request h' k kind ∷ ls) s end finished seed h count rs before at run fin = absurd (subst (λ q. Begins q s.left kind) at.phase run.0.2)
-answering (fixed h' register value ∷ ls) s end between seed h count rs before at run fin = absurd (subst (λ q. Reads q s.registers register) at.phase run.0.reads)
+answering (fixed h' register value ∷ ls) s end between seed h count rs before at run fin = absurd (subst (λ q. Reads q s.machine.x register) at.phase run.0.reads)
 answering (fixed h' register value ∷ ls) s end (begun r) seed h count rs before at run fin =
     let f : Fixes s h' register value = run.0 in
     let x : Line = fixed h' register value in
     let is_hart : h' ≡ h = f.of_hart ∙ at.hart in
-    let named : Named (updated s.registers register (Some value)) (before ++ x ∷ []) = named_updated s.registers before x register value (λ q. refl) at.named in
+    let named : Named (updated s.machine.x register (Some value)) (before ++ x ∷ []) = named_updated s.machine.x before x register value (λ q. refl) at.named in
     let drawn : s.drawn + 1 ≡ count_by is_fixing (before ++ x ∷ []) =
     ap (λ n. n + 1) at.drawn ∙ sym (sum_by-append (λ k. cond (is_fixing k) 1 0) before (x ∷ [])) in
     let more : Answering (begun r) seed h count rs (before ++ x ∷ []) ls =
     answering ls (after s x) end (begun r) seed h count rs (before ++ x ∷ [])
     (record { phase = at.phase; seed_is = at.seed_is; hart = at.hart; done = at.done; left = at.left; named = named; drawn = drawn }) run.1 fin in
     let e : Effect = more.0 in
-    let reads : Reads (begun r) s.registers register = subst (λ q. Reads q s.registers register) at.phase f.reads in
+    let reads : Reads (begun r) s.machine.x register = subst (λ q. Reads q s.machine.x register) at.phase f.reads in
     let drawn_is : value ≡ word_of seed (stream_of h') s.drawn =
-    f.drawn ∙ ap (λ n. word_of n (stream_of s.hart) s.drawn) at.seed_is ∙ ap (λ n. word_of seed (stream_of n) s.drawn) (sym f.of_hart) in
+    f.drawn ∙ ap (λ n. word_of n (stream_of s.machine.number) s.drawn) at.seed_is ∙ ap (λ n. word_of seed (stream_of n) s.drawn) (sym f.of_hart) in
     let late : late_lines seed h' before e.word ≡ x ∷ late_lines seed h' (before ++ x ∷ []) e.word =
     late_next seed h' register value before s r e reads.0 at.named at.drawn more.2 reads.1 drawn_is named drawn in
     let here : late_lines seed h before e.word ≡ x ∷ late_lines seed h (before ++ x ∷ []) e.word =
@@ -297,17 +313,18 @@ answering (fixed h' register value ∷ ls) s end (begun r) seed h count rs befor
       subst (λ b. AnswersFrom seed h (count + 1) rs b more.1)
           (append_assoc before (x ∷ []) (tail_of seed h count (before ++ x ∷ []) e) ∙ ap (λ t. before ++ t) (sym tail)) more.4,
     )
-answering (fixed h' register value ∷ ls) s end stepped seed h count rs before at run fin = absurd (subst (λ q. Reads q s.registers register) at.phase run.0.reads)
-answering (fixed h' register value ∷ ls) s end finished seed h count rs before at run fin = absurd (subst (λ q. Reads q s.registers register) at.phase run.0.reads)
+answering (fixed h' register value ∷ ls) s end stepped seed h count rs before at run fin = absurd (subst (λ q. Reads q s.machine.x register) at.phase run.0.reads)
+answering (fixed h' register value ∷ ls) s end finished seed h count rs before at run fin = absurd (subst (λ q. Reads q s.machine.x register) at.phase run.0.reads)
 answering (made e ∷ ls) s end between seed h count rs before at run fin = absurd (subst (λ q. Makes q e) at.phase run.0.0)
 answering (made e ∷ ls) s end (begun r) seed h count rs before at run fin =
-    let named : Named (with_present s.registers e.rd) (before ++ made e ∷ []) = named_written s.registers before (made e) e.rd (λ q. refl) at.named in
+    let named : Named (hart_after s (effect_word e)).x (before ++ made e ∷ []) =
+    subst (λ g. Named g (before ++ made e ∷ [])) (sym (registers_after s e run.0.1)) (named_written s.machine.x before (made e) e.rd (λ q. refl) at.named) in
     let more : Answering stepped seed h count rs (before ++ made e ∷ []) ls =
     answering ls (moved s e stepped) end stepped seed h count rs (before ++ made e ∷ [])
     (record {
       phase = refl;
       seed_is = at.seed_is;
-      hart = at.hart;
+      hart = number_after s (effect_word e) ∙ at.hart;
       done = at.done;
       left = at.left;
       named = named;
@@ -329,10 +346,10 @@ answering (ending e ∷ ls) s end between seed h count [] before at run fin =
     (record {
       phase = refl;
       seed_is = at.seed_is;
-      hart = at.hart;
+      hart = number_after s (effect_word e) ∙ at.hart;
       done = at.done;
       left = at.left;
-      named = named_written s.registers before (ending e) e.rd (λ q. refl) at.named;
+      named = subst (λ g. Named g (before ++ ending e ∷ [])) (sym (registers_after s e run.0.2)) (named_written s.machine.x before (ending e) e.rd (λ q. refl) at.named);
       drawn = still_drawn before (ending e) s.drawn refl at.drawn;
     }) run.1 fin in
     (e, run.0.1, ap (λ l. ending e ∷ l) more)
@@ -352,7 +369,7 @@ answering (done h' k ∷ ls) s end stepped seed h count rs before at run fin =
       hart = at.hart;
       done = ap (λ n. n + 1) at.done;
       left = at.left;
-      named = named_kept s.registers before line (λ q. refl) at.named;
+      named = named_kept s.machine.x before line (λ q. refl) at.named;
       drawn = still_drawn before line s.drawn refl at.drawn;
     }) run.1 fin in
     let line_is : line ≡ done h count = ap (λ q. done q k) (run.0.0 ∙ at.hart) ∙ ap (done h) (run.0.1 ∙ at.done) in
@@ -361,10 +378,10 @@ answering (done h' k ∷ ls) s end finished seed h count rs before at run fin = 
 answering (other ∷ ls) s end p seed h count rs before at run fin = absurd run.0
 
 -- a run from the start of a hart to its end
-pub answers_of_run : (s end : HartState) (lines : List Line) → s.phase ≡ between → Named s.registers [] → s.drawn ≡ 0 → Runs legal after s lines end → end.phase ≡ finished
-    → AnswersFrom s.seed s.hart s.count s.left [] lines
+pub answers_of_run : (s end : HartState) (lines : List Line) → s.phase ≡ between → Named s.machine.x [] → s.drawn ≡ 0 → Runs legal after s lines end → end.phase ≡ finished
+    → AnswersFrom s.seed s.machine.number s.count s.left [] lines
 answers_of_run s end lines is_between named drawn run fin =
-    answering lines s end between s.seed s.hart s.count s.left []
+    answering lines s end between s.seed s.machine.number s.count s.left []
     (record { phase = is_between; seed_is = refl; hart = refl; done = refl; left = refl; named = named; drawn = drawn }) run fin
 
 -- before any line x0 alone has a value

@@ -3,7 +3,9 @@ use Rattle.std.proofs.Common.{ℕ, ◌+◌, ◌<◌, ◌≤◌, ◌≡◌, Bool,
 use Rattle.std.specs.Prelude.{zero, suc, is_none, ◌&&◌}
 use Rattle.std.specs.List.{AllByRecursion}
 use Rattle.std.specs.Option.{option_or}
-use Rattle.rv_fields.specs.Step.{updated}
+use Rattle.rv_fields.specs.Hart.{Hart, Registers, updated}
+use Rattle.rv_fields.specs.Laws.{TellsMore}
+use Rattle.rv_fields.specs.Step.{with_write}
 use Rattle.ram_image.specs.Pieces.{byte_in, filled, laid}
 use Rattle.ram_image.specs.Segments.{memory_of}
 use Rattle.choice_tree.specs.Forest.{Forest}
@@ -12,24 +14,21 @@ use Rattle.region_plan.specs.Work.{Work, hart_count}
 use Rattle.trace_text.specs.Lines.{Line, request, fixed, made, ending, done, hart_of, lines_of, fixed_by, starting}
 use Rattle.world_face.specs.Runs.{Runs}
 use Rattle.boot_words.specs.Layout.{code_address}
-use Rattle.hart_task.specs.Machine.{HartState, stepped, finished, start, legal, after, with_begun, with_present, moved}
+use Rattle.boot_words.specs.Startup.{IsStart}
+use Rattle.hart_task.specs.Machine.{HartState, stepped, finished, start, legal, after, with_begun, effect_word, moved}
 use Rattle.run_merge.specs.Image.{startup_pieces, handler_pieces, code_pieces, image, word_bytes}
 use Rattle.run_merge.specs.Answers.{Answers}
 use Rattle.run_merge.specs.Justified.{IsStarting, Justified}
 use Rattle.hart_task.specs.Task.{IsFinishedRun}
-use Rattle.hart_task.proofs.Retiring.{Extends}
+use Rattle.hart_task.proofs.Retiring.{number_after, registers_after}
 use Rattle.hart_task.proofs.Standing.{starting_append}
 use Rattle.run_merge.specs.Whole.{OneRun}
 use Rattle.run_merge.proofs.Answered.{answers_of_run, named_start, turned}
-use Rattle.run_merge.proofs.Played.{playing, read_next, Running, Named, AllOver, hart_of_step}
+use Rattle.run_merge.proofs.Played.{Over, playing, read_next, Running, Named, AllOver, hart_of_step, number-with_begun}
 use Rattle.run_merge.proofs.Placed.{AreLaid, laid-append, laid_within, byte_behind, memory_joins}
 use Rattle.run_merge.proofs.Imaged.{Coded, coded, tells, Holds}
 
 -- ---- the lines are all the hart's
-
-hart-with_begun : (s : HartState) (rs : List Request) → (with_begun s rs).hart ≡ s.hart
-hart-with_begun s [] = refl
-hart-with_begun s (r ∷ rs) = refl
 
 record Own (h : ℕ) (n : ℕ) (lines : List Line) : Type 0 where
   same : lines_of h lines ≡ lines
@@ -43,16 +42,16 @@ own_line h n l ls is small own =
       members = (omega (arith, is), own.members);
     }
 
-own : (lines : List Line) (s end : HartState) (h n : ℕ) → s.hart ≡ h → h < n → Runs legal after s lines end → Own h n lines
+own : (lines : List Line) (s end : HartState) (h n : ℕ) → s.machine.number ≡ h → h < n → Runs legal after s lines end → Own h n lines
 own [] s end h n is small run = record { same = refl; members = tt }
 own (request h' k kind ∷ ls) s end h n is small run =
-    own_line h n (request h' k kind) ls (run.0.0 ∙ is) small (own ls (with_begun s s.left) end h n (hart-with_begun s s.left ∙ is) small run.1)
+    own_line h n (request h' k kind) ls (run.0.0 ∙ is) small (own ls (with_begun s s.left) end h n (number-with_begun s s.left ∙ is) small run.1)
 own (fixed h' register value ∷ ls) s end h n is small run =
     own_line h n (fixed h' register value) ls (run.0.of_hart ∙ is) small (own ls (after s (fixed h' register value)) end h n is small run.1)
 own (made e ∷ ls) s end h n is small run =
-    own_line h n (made e) ls (hart_of_step s e run.0.1 ∙ is) small (own ls (moved s e stepped) end h n is small run.1)
+    own_line h n (made e) ls (hart_of_step s e run.0.1 ∙ is) small (own ls (moved s e stepped) end h n (number_after s (effect_word e) ∙ is) small run.1)
 own (ending e ∷ ls) s end h n is small run =
-    own_line h n (ending e) ls (hart_of_step s e run.0.2 ∙ is) small (own ls (moved s e finished) end h n is small run.1)
+    own_line h n (ending e) ls (hart_of_step s e run.0.2 ∙ is) small (own ls (moved s e finished) end h n (number_after s (effect_word e) ∙ is) small run.1)
 own (done h' k ∷ ls) s end h n is small run =
     own_line h n (done h' k) ls (run.0.0 ∙ is) small (own ls (after s (done h' k)) end h n is small run.1)
 own (other ∷ ls) s end h n is small run = absurd run.0
@@ -99,41 +98,45 @@ front_laid initial =
 
 -- ---- whatever else stands in memory and registers
 
-extends_start : (x : ℕ → ℕ) → x 0 ≡ 0 → Extends x (updated (λ q. None) 0 (Some 0))
-extends_start x is_zero r v = at (eqb r 0) refl
+start_told : (x : Registers) → x 0 ≡ Some 0 → TellsMore (updated (λ q. None) 0 (Some 0)) x
+start_told x is_zero r v = at (eqb r 0) refl
   where
-    at : (b : Bool) → b ≡ eqb r 0 → cond b (Some 0) None ≡ Some v → x r ≡ v
-    at true is e = let same : r ≡ 0 = eqb-true r 0 (sym is) in ap x same ∙ is_zero ∙ cc
-    at false is e = cc
+    at : (b : Bool) → b ≡ eqb r 0 → cond b (Some 0) None ≡ Some v → x r ≡ Some v
+    at true is e = let same : r ≡ 0 = eqb-true r 0 (sym is) in ap x same ∙ is_zero ∙ e
+    at false is e = absurd cc
 
-pub justified : (work : Work) (seed : ℕ) (lines : List Line) → hart_count work ≡ 1 → (run : IsFinishedRun work seed 0 lines)
-    → code_address 0 (length run.end.words) ≤ 0x90000000 → Justified work lines
+-- a hart at its start stands where its log begins
+over_start : (work : Work) (seed h : ℕ) (hart : Hart) → IsStart h hart → Over hart.x (start work seed h) hart
+over_start work seed h hart at = record {
+  mcause = hart.csrs.mcause;
+  mtval = hart.csrs.mtval;
+  same = λ i. record { number = at.number i; pc = at.pc i; x = hart.x; mode = at.mode i; csrs = at.csrs i; reserved = at.reserved i };
+  registers = start_told hart.x at.zero;
+  untouched = λ r none. refl;
+}
+
+pub justified : (work : Work) (seed : ℕ) (lines : List Line) → hart_count work ≡ 1 → IsFinishedRun work seed 0 lines → Justified work lines
 unfolding Running Named AllOver
-justified work seed lines one run room machine starts =
+justified work seed lines one run machine starts =
     let first : ℕ → HartState = start work seed in
     let owned : Own 0 (hart_count work) lines = own lines (first 0) run.end 0 (hart_count work) refl (omega (arith, one)) run.run in
     let run_of_0 : Runs legal after (first 0) (lines_of 0 lines) run.end =
     subst (λ ls. Runs legal after (first 0) ls run.end) (sym owned.same) run.run in
     let code : Coded 0 [] lines run.end = coded lines (first 0) run.end 0 [] refl refl run.run in
-    let holds : Holds machine.memory (code_pieces lines) = λ a b e.
+    let holds : Holds machine.seen.byte (code_pieces lines) = λ a b e.
     starts.memory a b (subst (λ n. byte_in (startup_pieces (starting lines) n ++ handler_pieces ++ code_pieces lines) a ≡ Some b) (sym one)
     (byte_behind 0x80000000 (startup_pieces (starting lines) 1 ++ handler_pieces) 0x84000000 (code_pieces lines) _ a b (front_laid (starting lines)) code.laid_out e)) in
     playing (hart_count work) lines (λ h. (machine.harts h).x) first (λ h. run.end) machine owned.members
     (λ h small. let zero : 0 ≡ h = omega (arith, one) in subst (λ k. Runs legal after (first k) (lines_of k lines) run.end) zero run_of_0)
     (λ h small. refl)
-    (λ h small. record {
-      number = (starts.harts h small).number;
-      pc = (starts.harts h small).pc;
-      registers = extends_start (machine.harts h).x (starts.harts h small).zero;
-      untouched = λ r none. refl;
-    })
+    (λ h small. over_start work seed h (machine.harts h) (starts.harts h small))
     starts.registers
-    (tells machine.memory lines (first 0) run.end 0 [] refl refl run.run room holds)
+    (tells machine.seen lines (first 0) run.end 0 [] refl refl run.run holds)
 
 -- ---- each register starts with the value that a line fixes
 
 -- of lines before, those that fix a register have given it a value
-abbrev Noted : (ℕ → Option ℕ) → (ℕ → Option ℕ) → Type 0
+abbrev Noted : Registers → Registers → Type 0
 Noted registers initial = (r : ℕ) → registers r ≡ None → initial r ≡ None
 
 noted_next : (f g : ℕ → Option ℕ) (before : List Line) (l : Line) (h : ℕ) → Noted f (starting before h)
@@ -142,7 +145,7 @@ noted_next f g before l h noted more r none =
     let both = more r none in
     starting_append before (l ∷ []) h r ∙ ap (λ o. option_or o (option_or (fixed_by h r l) None)) (noted r both.0) ∙ ap (λ o. option_or {T = ℕ} o None) both.1
 
-untouched_before : (f : ℕ → Option ℕ) (w : Option (ℕ × ℕ)) (r : ℕ) → with_present f w r ≡ None → f r ≡ None
+untouched_before : (f : ℕ → Option ℕ) (w : Option (ℕ × ℕ)) (r : ℕ) → with_write f w r ≡ None → f r ≡ None
 untouched_before f None r none = none
 untouched_before f (Some w) r none = at (eqb r w.0) none
   where
@@ -164,7 +167,7 @@ other_untouched f h register value r = at (eqb r register) refl
         nothing false = refl
 
 -- x0 has a value, and keeps one
-zero_written : (f : ℕ → Option ℕ) (w : Option (ℕ × ℕ)) → is_none (f 0) ≡ false → is_none (with_present f w 0) ≡ false
+zero_written : (f : ℕ → Option ℕ) (w : Option (ℕ × ℕ)) → is_none (f 0) ≡ false → is_none (with_write f w 0) ≡ false
 zero_written f None has = has
 zero_written f (Some w) has = at (eqb 0 w.0)
   where
@@ -175,7 +178,7 @@ zero_written f (Some w) has = at (eqb 0 w.0)
     at true = refl
     at false = had
 
-registers-with_begun : (s : HartState) (rs : List Request) → (with_begun s rs).registers ≡ s.registers
+registers-with_begun : (s : HartState) (rs : List Request) → (with_begun s rs).machine.x ≡ s.machine.x
 registers-with_begun s [] = refl
 registers-with_begun s (r ∷ rs) = refl
 
@@ -188,7 +191,7 @@ fixed_first before ls h register value none =
     ∙ ap (λ b. option_or (cond (b && eqb register register) (Some value) None) (starting ls h register)) (eq-eqb h h refl)
     ∙ ap (λ b. option_or (cond b (Some value) None) (starting ls h register)) (eq-eqb register register refl)
 
-fixed_once : (before lines : List Line) (s end : HartState) (h : ℕ) → s.hart ≡ h → is_none (s.registers 0) ≡ false → Noted s.registers (starting before h)
+fixed_once : (before lines : List Line) (s end : HartState) (h : ℕ) → s.machine.number ≡ h → is_none (s.machine.x 0) ≡ false → Noted s.machine.x (starting before h)
     → Runs legal after s lines end → AllByRecursion (IsStarting (starting (before ++ lines))) lines
 fixed_once before [] s end h is has noted run = tt
 fixed_once before (request h' k kind ∷ ls) s end h is has noted run =
@@ -196,45 +199,53 @@ fixed_once before (request h' k kind ∷ ls) s end h is has noted run =
     let same = registers-with_begun s s.left in (
       tt,
       subst (λ all. AllByRecursion (IsStarting (starting all)) ls) (append_assoc before (line ∷ []) ls)
-          (fixed_once (before ++ line ∷ []) ls (with_begun s s.left) end h (hart-with_begun s s.left ∙ is) (subst (λ f. is_none (f 0) ≡ false) (sym same) has)
-          (subst (λ f. Noted f (starting (before ++ line ∷ []) h)) (sym same) (noted_next s.registers s.registers before line h noted (λ r none. (none, refl)))) run.1),
+          (fixed_once (before ++ line ∷ []) ls (with_begun s s.left) end h (number-with_begun s s.left ∙ is) (subst (λ f. is_none (f 0) ≡ false) (sym same) has)
+          (subst (λ f. Noted f (starting (before ++ line ∷ []) h)) (sym same) (noted_next s.machine.x s.machine.x before line h noted (λ r none. (none, refl)))) run.1),
     )
 fixed_once before (fixed h' register value ∷ ls) s end h is has noted run =
     let line : Line = fixed h' register value in
     let of_hart : h' ≡ h = run.0.of_hart ∙ is in
-    let none : s.registers register ≡ None = read_next s.phase s.registers register run.0.reads in
+    let none : s.machine.x register ≡ None = read_next s.phase s.machine.x register run.0.reads in
     let first : starting (before ++ line ∷ ls) h' register ≡ Some value =
     fixed_first before ls h' register value (subst (λ q. starting before q register ≡ None) (sym of_hart) (noted register none)) in (
       (first, positive register none, run.0.register_is, run.0.small),
       subst (λ all. AllByRecursion (IsStarting (starting all)) ls) (append_assoc before (line ∷ []) ls)
-          (fixed_once (before ++ line ∷ []) ls (after s line) end h is (zero_written s.registers (Some (register, value)) has)
-          (noted_next s.registers (updated s.registers register (Some value)) before line h noted
-          (λ r gone. subst (λ q. (s.registers r ≡ None) × (fixed_by h r (fixed q register value) ≡ None)) (sym of_hart) (other_untouched s.registers h register value r gone))) run.1),
+          (fixed_once (before ++ line ∷ []) ls (after s line) end h is (zero_written s.machine.x (Some (register, value)) has)
+          (noted_next s.machine.x (updated s.machine.x register (Some value)) before line h noted
+          (λ r gone. subst (λ q. (s.machine.x r ≡ None) × (fixed_by h r (fixed q register value) ≡ None)) (sym of_hart) (other_untouched s.machine.x h register value r gone))) run.1),
     )
   where
-    has_zero : is_none (s.registers 0) ≡ false
+    has_zero : is_none (s.machine.x 0) ≡ false
     has_zero = has
 
-    positive : (r : ℕ) → s.registers r ≡ None → 0 < r
-    positive zero none = absurd (let both : is_none (s.registers 0) ≡ true = ap is_none none in cc)
+    positive : (r : ℕ) → s.machine.x r ≡ None → 0 < r
+    positive zero none = absurd (let both : is_none (s.machine.x 0) ≡ true = ap is_none none in cc)
     positive (suc r) none = omega arith
-fixed_once before (made e ∷ ls) s end h is has noted run = (
-  tt,
-  subst (λ all. AllByRecursion (IsStarting (starting all)) ls) (append_assoc before (made e ∷ []) ls)
-      (fixed_once (before ++ made e ∷ []) ls (moved s e stepped) end h is (zero_written s.registers e.rd has)
-      (noted_next s.registers (with_present s.registers e.rd) before (made e) h noted (λ r none. (untouched_before s.registers e.rd r none, refl))) run.1),
-)
-fixed_once before (ending e ∷ ls) s end h is has noted run = (
-  tt,
-  subst (λ all. AllByRecursion (IsStarting (starting all)) ls) (append_assoc before (ending e ∷ []) ls)
-      (fixed_once (before ++ ending e ∷ []) ls (moved s e finished) end h is (zero_written s.registers e.rd has)
-      (noted_next s.registers (with_present s.registers e.rd) before (ending e) h noted (λ r none. (untouched_before s.registers e.rd r none, refl))) run.1),
-)
+fixed_once before (made e ∷ ls) s end h is has noted run =
+    let line : Line = made e in
+    let same = registers_after s e run.0.1 in (
+      tt,
+      subst (λ all. AllByRecursion (IsStarting (starting all)) ls) (append_assoc before (line ∷ []) ls)
+          (fixed_once (before ++ line ∷ []) ls (moved s e stepped) end h (number_after s (effect_word e) ∙ is)
+          (subst (λ f. is_none (f 0) ≡ false) (sym same) (zero_written s.machine.x e.rd has))
+          (subst (λ f. Noted f (starting (before ++ line ∷ []) h)) (sym same)
+          (noted_next s.machine.x (with_write s.machine.x e.rd) before line h noted (λ r none. (untouched_before s.machine.x e.rd r none, refl)))) run.1),
+    )
+fixed_once before (ending e ∷ ls) s end h is has noted run =
+    let line : Line = ending e in
+    let same = registers_after s e run.0.2 in (
+      tt,
+      subst (λ all. AllByRecursion (IsStarting (starting all)) ls) (append_assoc before (line ∷ []) ls)
+          (fixed_once (before ++ line ∷ []) ls (moved s e finished) end h (number_after s (effect_word e) ∙ is)
+          (subst (λ f. is_none (f 0) ≡ false) (sym same) (zero_written s.machine.x e.rd has))
+          (subst (λ f. Noted f (starting (before ++ line ∷ []) h)) (sym same)
+          (noted_next s.machine.x (with_write s.machine.x e.rd) before line h noted (λ r none. (untouched_before s.machine.x e.rd r none, refl)))) run.1),
+    )
 fixed_once before (done h' k ∷ ls) s end h is has noted run = (
   tt,
   subst (λ all. AllByRecursion (IsStarting (starting all)) ls) (append_assoc before (done h' k ∷ []) ls)
       (fixed_once (before ++ done h' k ∷ []) ls (after s (done h' k)) end h is has
-      (noted_next s.registers s.registers before (done h' k) h noted (λ r none. (none, refl))) run.1),
+      (noted_next s.machine.x s.machine.x before (done h' k) h noted (λ r none. (none, refl))) run.1),
 )
 fixed_once before (other ∷ ls) s end h is has noted run = absurd run.0
 

@@ -5,7 +5,7 @@ use Rattle.std.specs.Int.{w64, to_le_bytes}
 use Rattle.std.specs.Option.{option_or}
 use Rattle.std.proofs.lemmas.Bool.Decides.{nat_tests}
 use Rattle.std.proofs.lemmas.List.{get_or_append_left, get_or-append_right}
-use Rattle.rv_fields.specs.Memory.{whole, told, in_ram}
+use Rattle.rv_fields.specs.Memory.{Bytes, told, in_ram}
 use Rattle.rv_fields.proofs.Told.{told_value}
 use Rattle.ram_image.specs.Pieces.{Piece, piece_byte, byte_in}
 use Rattle.boot_words.specs.Layout.{dispatcher_at, boot_block_at, boot_csrs_at, boot_registers_at}
@@ -52,11 +52,11 @@ table_byte initial others i below =
     ∙ ap (λ k. Some (get_or p4.bytes k 0)) index
 
 -- memory that holds the pieces tells a register's starting value at its place in the table
-pub table_told : (initial : ℕ → ℕ → Option ℕ) (others : List Piece) (memory : ℕ → ℕ) (place value : ℕ) → place < 31 → value < 2 ^ 64
+pub table_told : (initial : ℕ → ℕ → Option ℕ) (others : List Piece) (memory : Bytes) (place value : ℕ) → place < 31 → value < 2 ^ 64
     → initial 0 (place + 1) ≡ Some value → Holds memory (startup_pieces initial 1 ++ others)
-    → told (whole memory) (boot_registers_at 0 + 8 * place) 8 ≡ Some (Some value)
+    → told memory (boot_registers_at 0 + 8 * place) 8 ≡ Some (Some value)
 table_told initial others memory place value small fits is holds =
-    told_value (whole memory) (boot_registers_at 0 + 8 * place) value in_it fits (λ j below. ap Some (bytes j below))
+    told_value memory (boot_registers_at 0 + 8 * place) value in_it fits bytes
   where
     in_it : in_ram (boot_registers_at 0 + 8 * place) 8 ≡ true
     in_it = grind (arith, nat_tests)
@@ -64,11 +64,11 @@ table_told initial others memory place value small fits is holds =
     held : get_or (boot_registers (initial 0)) place 0 ≡ value
     held = table_at (initial 0) place small ∙ ap (λ o. unwrap_or o 0) is
 
-    bytes : (j : ℕ) → j < 8 → memory (boot_registers_at 0 + 8 * place + j) ≡ get_or (to_le_bytes w64 value) j 0
+    bytes : (j : ℕ) → j < 8 → memory (boot_registers_at 0 + 8 * place + j) ≡ Some (get_or (to_le_bytes w64 value) j 0)
     bytes j below =
         let long : 31 ≤ length (boot_registers (initial 0)) = lit≤ tt in
         let at : boot_registers_at 0 + 8 * place + j ≡ boot_registers_at 0 + (8 * place + j) = omega arith in
         ap memory at
         ∙ holds (boot_registers_at 0 + (8 * place + j)) _ (table_byte initial others (8 * place + j) (omega arith))
-        ∙ value_byte (boot_registers (initial 0)) place j below (omega (arith, long))
-        ∙ ap (λ v. get_or (to_le_bytes w64 v) j 0) held
+        ∙ ap Some (value_byte (boot_registers (initial 0)) place j below (omega (arith, long)))
+        ∙ ap (λ v. Some (get_or (to_le_bytes w64 v) j 0)) held

@@ -1,5 +1,5 @@
 -- The memory that a run's program is: what boots the harts, and the words that they made.
-use Rattle.std.specs.Prelude.{ℕ, suc, zero, ◌+◌, List, [], ◌∷◌, ◌++◌, map, Option, Some, None}
+use Rattle.std.specs.Prelude.{ℕ, suc, zero, ◌+◌, List, [], ◌∷◌, ◌++◌, map, Option, Some, None, unwrap_or}
 use Rattle.std.specs.List.{flat_map, filter_map}
 use Rattle.std.specs.Int.{w32, w64, to_le_bytes}
 use Rattle.rv_fields.specs.declared.mode.Mode.TheVariants.{S, M}
@@ -10,6 +10,7 @@ use Rattle.boot_words.specs.Boot.{dispatcher, boot_block, boot_csrs, boot_regist
 use Rattle.ram_image.specs.Pieces.{Piece, filled, laid}
 use Rattle.ram_image.specs.Segments.{Stretch}
 use Rattle.region_plan.specs.Work.{Work, hart_count}
+use Rattle.hart_task.specs.Machine.{effect_word}
 
 -- words and values as bytes, the lowest first
 abbrev pub word_bytes : List ℕ → List ℕ
@@ -47,8 +48,12 @@ made_in (made e) = Some e
 made_in (ending e) = Some e
 made_in line = None
 
+-- the physical address at which the word of an effect stands; 0 where it tells none
+abbrev pub effect_pa : Effect → ℕ
+effect_pa e = unwrap_or e.pa 0
+
 abbrev pub word_piece : Effect → Piece
-word_piece e = record { at = e.pa; bytes = to_le_bytes w32 e.word }
+word_piece e = record { at = effect_pa e; bytes = to_le_bytes w32 (effect_word e) }
 
 -- each made word at its physical address
 abbrev pub code_pieces : List Line → List Piece

@@ -1,5 +1,5 @@
 -- What the finished run of the hart says, said of the job.
-use Rattle.std.proofs.Common.{◌≤◌, ap, sym, ◌∙◌, arith, length}
+use Rattle.std.proofs.Common.{ap, sym, ◌∙◌}
 use Rattle.region_plan.specs.Work.{work_of}
 use Rattle.trace_text.specs.Lines.{effects_of}
 use Rattle.trace_text.specs.Views.{lines_seen}
@@ -29,6 +29,4 @@ returns-clause-fixed c = fixes_once (work_of c.args.job.now) c.requires.log.0 (l
 
 pub returns-clause-justified : goal.returns-clause-justified
 returns-clause-justified c =
-    let log = c.requires.log.1 in
-    let few : length log.run.end.words ≤ 1024 = omega (arith, ap length log.words, log.room) in
-    justified (work_of c.args.job.now) c.requires.log.0 (log_lines c.args.log) c.requires.rules.one_hart log.run (omega (arith, few))
+    justified (work_of c.args.job.now) c.requires.log.0 (log_lines c.args.log) c.requires.rules.one_hart c.requires.log.1.run
