@@ -53,29 +53,28 @@ one_entry lines h =
 
 -- a machine has each byte that is placed in the image that it is loaded from
 loaded_holds : (work : Work) (elf : List ℕ) (lines : List Line) (machine : Machine) → ((a : ℕ) → load elf a ≡ Some (image work lines a))
-    → IsLoaded work elf machine → Holds machine.memory (image_pieces work lines)
+    → IsLoaded work elf machine → Holds machine.seen.byte (image_pieces work lines)
 loaded_holds work elf lines machine loads loaded a b placed =
-    let same : machine.memory a ≡ image work lines a = let e = loads a in let f = loaded.memory a in cc in
-    same ∙ ap (λ o. unwrap_or o 0) placed
+    loaded.memory a ∙ loads a ∙ ap (λ o. Some (unwrap_or o 0)) placed
 
 -- its table has the value of each line that fixes a register
 table_fixes : (initial : ℕ → ℕ → Option ℕ) (others : List Piece) (machine : Machine) (lines : List Line)
-    → Holds machine.memory (startup_pieces initial 1 ++ others) → IsBooted machine.memory 0 (machine.harts 0)
+    → Holds machine.seen.byte (startup_pieces initial 1 ++ others) → IsBooted machine.seen.byte 0 (machine.harts 0)
     → AllByRecursion (λ l. hart_of l < 1) lines → AllByRecursion (IsStarting initial) lines → AllByRecursion (HasFixed (λ h. (machine.harts h).x)) lines
 table_fixes initial others machine [] holds booted members starts = tt
 table_fixes initial others machine (fixed hart register value ∷ ls) holds booted members starts =
     (here, table_fixes initial others machine ls holds booted members.1 starts.1)
   where
-    here : (machine.harts hart).x register ≡ value
+    here : (machine.harts hart).x register ≡ Some value
     here =
         let is_zero : 0 ≡ hart = omega (arith, members.0) in
         let place : register - 1 + 1 ≡ register = omega (arith, starts.0.1) in
         let below : register - 1 < 31 = omega (arith, starts.0.1, starts.0.2) in
         let first : initial 0 (register - 1 + 1) ≡ Some value =
         ap (λ h. initial h (register - 1 + 1)) is_zero ∙ ap (initial hart) place ∙ starts.0.0 in
-        let told = table_told initial others machine.memory (register - 1) value below starts.0.3 first holds in
+        let told = table_told initial others machine.seen.byte (register - 1) value below starts.0.3 first holds in
         let loaded = booted.registers (register - 1) below in
-        let same : (machine.harts 0).x (register - 1 + 1) ≡ value = cc in
+        let same : (machine.harts 0).x (register - 1 + 1) ≡ Some value = cc in
         ap (λ h. (machine.harts h).x register) (sym is_zero) ∙ ap (machine.harts 0).x (sym place) ∙ same
 table_fixes initial others machine (l ∷ ls) holds booted members starts =
     (tt, table_fixes initial others machine ls holds booted members.1 starts.1)
@@ -86,9 +85,10 @@ loaded_starts : (work : Work) (elf : List ℕ) (lines : List Line) (machine : Ma
 loaded_starts work elf lines machine one loads members starts loaded =
     let holds = loaded_holds work elf lines machine loads loaded in
     record {
+      whole = loaded.whole;
       memory = holds;
       registers = table_fixes (starting lines) (handler_pieces ++ code_pieces lines) machine lines
-          (subst (λ n. Holds machine.memory (startup_pieces (starting lines) n ++ handler_pieces ++ code_pieces lines)) one holds)
+          (subst (λ n. Holds machine.seen.byte (startup_pieces (starting lines) n ++ handler_pieces ++ code_pieces lines)) one holds)
           (loaded.harts 0 (omega (arith, one))) (subst (λ n. AllByRecursion (λ l. hart_of l < n) lines) one members) starts;
       harts = λ h small. (loaded.harts h small).start;
     }

@@ -2,7 +2,8 @@
 use Rattle.std.specs.Prelude.{ℕ, ◌≡◌, ◌+◌, ◌<◌, List, [], ◌∷◌, ◌++◌, length, codes, Bool, true, false, Some}
 use Rattle.std.specs.List.{count_by}
 use Rattle.std.specs.Fmt.{decimal}
-use Rattle.rv_fields.specs.Play.{Machine, Plays}
+use Rattle.rv_fields.specs.Memory.{IsWhole}
+use Rattle.rv_fields.specs.Play.{Machine}
 use Rattle.elf_file.specs.Loading.{load}
 use Rattle.forge.specs.declared.made.Counts.{Counts}
 use Rattle.choice_tree.specs.Forest.{Forest}
@@ -12,14 +13,15 @@ use Rattle.trace_text.specs.Text.{turns_of, trace_text, order_text}
 use Rattle.boot_words.specs.Startup.{IsBooted}
 use Rattle.run_merge.specs.Image.{image}
 use Rattle.run_merge.specs.Answers.{Answers}
-use Rattle.run_merge.specs.Justified.{order_of, Justified}
+use Rattle.run_merge.specs.Justified.{DoesAll, Justified}
 use Rattle.run_merge.specs.Order.{whole_order, boot_steps}
 
--- The machine that the file is loaded into: each byte is the file's, and each hart of the job stands at its start, with
--- the registers that its table there has.
+-- The machine that the file is loaded into: it is whole, each byte is the file's, and each hart of the job stands at its
+-- start, with the registers that its table there has.
 pub record IsLoaded (work : Work) (elf : List ℕ) (machine : Machine) : Type 0 where
-  pub memory : (a : ℕ) → load elf a ≡ Some (machine.memory a)
-  pub harts : (h : ℕ) → h < hart_count work → IsBooted machine.memory h (machine.harts h)
+  pub whole : IsWhole machine.seen
+  pub memory : (a : ℕ) → machine.seen.byte a ≡ load elf a
+  pub harts : (h : ℕ) → h < hart_count work → IsBooted machine.seen.byte h (machine.harts h)
 
 -- The files are those of a run that the lines tell.
 pub record IsRunOf (work : Work) (trees : Forest) (seed : ℕ) (elf order trace : List ℕ) (lines : List Line) : Type 0 where
@@ -33,7 +35,7 @@ pub record IsRunOf (work : Work) (trees : Forest) (seed : ℕ) (elf order trace 
   -- what the file is loaded as is the image, at every address
   pub loads : (a : ℕ) → load elf a ≡ Some (image work lines a)
   -- stepped from there, the harts do exactly what the step lines tell, in as many steps
-  pub plays : (machine : Machine) → IsLoaded work elf machine → Plays machine (order_of (effects_of lines)) (effects_of lines)
+  pub plays : (machine : Machine) → IsLoaded work elf machine → DoesAll machine (effects_of lines)
   -- late fixing is harmless: whatever else stood in memory and registers, they would do the same
   pub justified : Justified work lines
   -- the lines answer the job
