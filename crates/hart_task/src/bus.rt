@@ -9,11 +9,20 @@ const RAM_START: u64 = 0x8000_0000;
 /// The first address past RAM.
 const RAM_END: u64 = 0x9000_0000;
 
-/// Memory of which no more than one word is known, which stands in RAM. It has no room for a store or a link.
+/// The link of a hart to the 64 bytes of this number.
+#[derive(Clone, Copy)]
+pub struct Link {
+    pub hart: u8,
+    pub granule: u64,
+}
+
+/// Memory of which no more than one word is known, which stands in RAM, and one link. No byte of it changes: it has room
+/// where there is no RAM alone, for one link.
 #[derive(Drop)]
 pub struct OneWord {
     pub at: u64,
     pub word: u32,
+    pub link: Option<Link>,
     ghost in_ram: { IsTrue (in_ram at 4) },
 }
 
@@ -34,11 +43,11 @@ impl PteSource for OneWord {
 
 impl Bus for OneWord {
     ghost use Rattle.std.specs.Prelude.{refl};
-    ghost use Rattle.hart_task.specs.Bus.{word_seen};
+    ghost use Rattle.hart_task.specs.Bus.{word_seen, links_seen, HasRoom};
 
-    ghost seen = { λ b. word_seen b.at b.word };
+    ghost seen = { λ b. record { byte = (word_seen b.at b.word).byte; link = links_seen b.link } };
 
-    ghost has_room = { λ b. λ pa. ⊥ };
+    ghost has_room = { λ b. λ pa. HasRoom b.link pa };
 
     fn fetch(&self, pa: u64) -> Option<u32> {
         (pa == self.at).then_some(self.word)
@@ -60,10 +69,15 @@ impl Bus for OneWord {
         false
     }
 
-    fn link(&mut self, _hart: u8, _pa: u64) {}
+    fn link(&mut self, hart: u8, pa: u64) {
+        self.link = Some(Link {
+            hart,
+            granule: pa / 64,
+        });
+    }
 
     fn linked(&self, _hart: u8, _pa: u64) -> bool {
-        false
+        self.link.is_some()
     }
 
     ghost tells_entries = { λ b. refl };

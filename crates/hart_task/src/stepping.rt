@@ -56,7 +56,11 @@ pub fn step_word(hart: &mut Hart, word: u32) -> StepLine
     ensures zero { slice_index hart.new.x 0 ≡ 0 }
 {
     let pc = hart.pc;
-    let mut bus = OneWord { at: pc, word };
+    let mut bus = OneWord {
+        at: pc,
+        word,
+        link: None,
+    };
     let stepped = step(hart, &mut bus);
     StepLine {
         hart: hart.number,
