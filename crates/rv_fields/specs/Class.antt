@@ -1,5 +1,7 @@
 -- What each row of the instruction table does: the rows of one class have one meaning, but for what they compute.
-use Rattle.std.specs.Prelude.{ℕ}
+use Rattle.std.specs.Prelude.{ℕ, Option, Some, None, option_map}
+use Rattle.std.specs.Option.{option_map_or}
+use Rattle.rv_fields.specs.declared.access.AccessKind.{AccessKind}
 use Rattle.rv_fields.specs.declared.access.AccessKind.TheVariants.{Load, Store, Lr, Sc, Amo}
 use Rattle.rv_fields.specs.declared.class.Class.{Class}
 use Rattle.rv_fields.specs.declared.class.Class.TheVariants.{Computes, Branches, Jumps, JumpsByRegister, Accesses, ChangesCsr, Fences, FencesTranslation, CallsEnvironment, Breaks, ReturnsFromM, ReturnsFromS}
@@ -25,6 +27,21 @@ stores_if_reserved size = Accesses Sc size Zeros
 
 abbrev updates : ℕ → Class
 updates size = Accesses Amo size Sign
+
+-- what the instructions of a class do to memory, and to how many bytes of it; none where they access no memory
+abbrev pub access_in : Class → Option (AccessKind × ℕ)
+access_in Computes = None
+access_in Branches = None
+access_in Jumps = None
+access_in JumpsByRegister = None
+access_in (Accesses kind size extended) = Some (kind, size)
+access_in (ChangesCsr change) = None
+access_in Fences = None
+access_in FencesTranslation = None
+access_in CallsEnvironment = None
+access_in Breaks = None
+access_in ReturnsFromM = None
+access_in ReturnsFromS = None
 
 -- every row by its name, in the table's order
 abbrev pub class_of : Ins → Class
@@ -124,3 +141,10 @@ class_of Ecall = CallsEnvironment
 class_of Ebreak = Breaks
 class_of Sret = ReturnsFromS
 class_of Mret = ReturnsFromM
+
+abbrev pub kind_of : Ins → Option AccessKind
+kind_of ins = option_map (λ access. access.0) (access_in (class_of ins))
+
+-- 0 where it accesses none
+abbrev pub width_of : Ins → ℕ
+width_of ins = option_map_or (λ access. access.1) (access_in (class_of ins)) 0

@@ -2,6 +2,10 @@
 use Rattle.std.specs.Prelude.{ℕ, ◌-◌, Bool, ◌&&◌, ◌||◌, ◌==◌, nat_le, List, ◌++◌, length, replicate}
 use Rattle.std.specs.List.{list_all}
 
+-- a name, as its bytes
+abbrev pub Name : Type 0
+Name = List ℕ
+
 -- a letter a to z, a digit, `_` or `.`
 abbrev pub is_name_byte : ℕ → Bool
 is_name_byte b = (nat_le 97 b && nat_le b 122) || (nat_le 48 b && nat_le b 57) || (b == 95) || (b == 46)

@@ -32,7 +32,7 @@ abbrev pub reset_pc : ℕ
 reset_pc = 0x80000000
 
 -- The hart stands at reset: in mode M, without a reservation, and with any values in its registers. Its CSRs are what
--- writes of any raw values leave.
+-- writes of any raw values leave, but for MIE and MPRV in mstatus, which are 0, and mhartid, which is its number.
 pub record IsReset (h : ℕ) (hart : Hart) : Type 0 where
   pub number : hart.number ≡ h
   pub pc : hart.pc ≡ reset_pc

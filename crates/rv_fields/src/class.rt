@@ -17,7 +17,7 @@ pub enum Class {
         size: u8,
         extended: Extension,
     },
-    /// It reads and writes a CSR.
+    /// It gives rd the value of a CSR, and changes that CSR, but where it would set or clear bits by x0 or by 0.
     ChangesCsr(CsrChange),
     /// It orders accesses to memory.
     Fences,
