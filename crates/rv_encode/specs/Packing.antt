@@ -2,7 +2,9 @@
 use Rattle.std.specs.Prelude.{ℕ, ◌+◌, ◌*◌, ◌^◌, ℤ}
 use Rattle.rv_fields.specs.declared.row_table.Form.{Form}
 use Rattle.rv_fields.specs.declared.row_table.Form.TheVariants.{U, J, I, B, S, H6, H5, C, K}
+use Rattle.rv_fields.specs.declared.row_table.Ins.{Ins}
 use Rattle.rv_fields.specs.declared.row_table.Ops.{Ops}
+use Rattle.rv_fields.specs.RowTable.{form_of, value_of}
 use Rattle.rv_fields.specs.Immediate.{modulo, put_imm_i, put_imm_s, put_imm_b, put_imm_u, put_imm_j}
 
 -- the row's value, the registers, and aq with rl; those that the form lacks are 0
@@ -24,3 +26,7 @@ put_imm _ word z = word
 
 abbrev pub packed : Form → ℕ → Ops → ℕ
 packed form value ops = put_imm form (without_imm value ops) ops.imm
+
+-- the word of an instruction with operands that fit its form
+abbrev pub word_by : Ins → Ops → ℕ
+word_by ins ops = packed (form_of ins) (value_of ins) ops

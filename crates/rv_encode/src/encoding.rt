@@ -2,6 +2,7 @@ ghost use Rattle.std.specs.Prelude.{◌≡◌, ℕ, ◌<◌, ◌^◌, Some, None
 ghost use Rattle.rv_fields.specs.RowTable.{form_of};
 ghost use Rattle.rv_fields.specs.Decode.{Decoded, decoded};
 ghost use Rattle.rv_encode.specs.Fitting.{misfit};
+ghost use Rattle.rv_encode.specs.Packing.{word_by};
 
 use crate::field::OutOfField;
 use crate::fitting::misfit;
@@ -12,6 +13,7 @@ use rv_table::row;
 /// The word that spells the instruction with these operands.
 #[tactic(auto, using(rv_fields::proofs::OneRow::value_masked))]
 pub fn encode(ins: Ins, ops: &Ops) -> Result<u32, OutOfField>
+    ensures word { IfOk result (λ word. word ≡ word_by ins ops.now) }
     // What is encoded decodes to what was asked.
     ensures decodes { IfOk result (λ word. decoded word ≡ Some (record { ins = ins; ops = ops.now })) }
     // A word that decodes to it is the one that is given.
