@@ -3,11 +3,19 @@ use Rattle.std.specs.Prelude.{ℕ, List, [], codes, ◌==◌, ◌&&◌, Option, 
 use Rattle.serde_json.specs.Data.{Data}
 use Rattle.serde_json.specs.Events.{items_len}
 use Rattle.serde_json.specs.Find.{as_array, get_member}
+use Rattle.rv_fields.specs.Name.{Name}
 use Rattle.rv_fields.specs.Attempt.{◌>>=◌}
 use Rattle.choice_tree.specs.Json.{document, object_of, natural_at}
 
--- a weighted choice tree: none can be read yet
-pub data Tree : Type 0 where
+-- Nodes with their labels and weights, in order: a leaf and the nodes behind it, or a node with its kids and those behind it.
+pub data Nodes : Type 0 where
+  no_nodes : Nodes
+  leaf_of : Name → ℕ → Nodes → Nodes
+  node_of : Name → ℕ → Nodes → Nodes → Nodes
+
+pub record Tree : Type 0 where
+  pub name : Name
+  pub kids : Nodes
 
 abbrev pub Forest : Type 0
 Forest = List Tree

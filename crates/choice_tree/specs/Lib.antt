@@ -2,3 +2,4 @@ pub mod Json
 pub mod Forest
 pub mod Input
 pub mod Draws
+pub mod Trees
