@@ -1,2 +1,5 @@
-pub mod Work
+pub mod Request
+pub mod Plan
+pub mod Script
+pub mod Views
 pub mod Rules

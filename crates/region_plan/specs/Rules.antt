@@ -1,34 +1,75 @@
 -- The rules that a job keeps, by which its run is sure to answer it.
-use Rattle.std.specs.Prelude.{ℕ, ◌≡◌, ◌⊎◌, ◌<◌, ◌≤◌, pos, length, IsTrue}
+use Rattle.std.specs.Prelude.{ℕ, ◌≡◌, ◌⊎◌, ◌<◌, ◌≤◌, [], length, Option, None, false, IsTrue, IsSomeAnd}
 use Rattle.std.specs.List.{AllByRecursion}
-use Rattle.rv_fields.specs.declared.row_table.Ins as instruction
 use Rattle.rv_fields.specs.declared.row_table.Ins.TheVariants.{Addi, Add}
 use Rattle.rv_fields.specs.Immediate.{fits_i}
-use Rattle.region_plan.specs.declared.request.Pins.{Pins}
-use Rattle.region_plan.specs.declared.request.Request.{Request}
-use Rattle.region_plan.specs.declared.request.Request.TheVariants.{Ins}
-use Rattle.region_plan.specs.Work.{Work, hart_count, template_of}
+use Rattle.region_plan.specs.Plan.{HartPlan, Work, hart_count, no_hart}
+use Rattle.region_plan.specs.Request.{InsChoice, Pins, Plain, Request, a_csr, a_jump, a_loop, a_mem, a_pick, a_plain, a_set, a_sys, a_value, an_ins, by_tree, named_ins, no_arms}
+use Rattle.region_plan.specs.Script.{ScriptItem, script_of}
+use Rattle.region_plan.specs.Views.{work_with}
 
--- operands that the word of addi can hold
+-- a register that is pinned
+abbrev pub IsPinned : Option ℕ → Type 0
+IsPinned pin = IsSomeAnd pin (λ r. r < 32)
+
+-- nothing is pinned that no instruction of the two has, and no register is to be avoided
+pub record IsPlain (pins : Pins) : Type 0 where
+  pub aqrl : pins.aqrl ≡ 0
+  pub avoid : pins.avoid ≡ []
+  pub zero : pins.zero_rs1 ≡ false
+  pub rd : IsPinned pins.rd
+  pub rs1 : IsPinned pins.rs1
+
+-- pins that the word of addi can hold
 pub record FitAddi (pins : Pins) : Type 0 where
-  pub rd : pins.rd < 32
-  pub rs1 : pins.rs1 < 32
-  pub rs2 : pins.rs2 ≡ 0
-  pub imm : IsTrue (fits_i pins.imm)
+  pub plain : IsPlain pins
+  pub rs2 : pins.rs2 ≡ None
+  pub imm : IsSomeAnd pins.imm (λ i. IsTrue (fits_i i))
 
--- operands that the word of add can hold
+-- pins that the word of add can hold
 pub record FitAdd (pins : Pins) : Type 0 where
-  pub rd : pins.rd < 32
-  pub rs1 : pins.rs1 < 32
-  pub rs2 : pins.rs2 < 32
-  pub imm : pins.imm ≡ pos 0
+  pub plain : IsPlain pins
+  pub rs2 : IsPinned pins.rs2
+  pub imm : pins.imm ≡ None
 
--- a request that can be made: an addi or an add, with such operands
-abbrev pub IsMakeable : Request → Type 0
-IsMakeable (Ins ins pins) = ((ins ≡ Addi) × FitAddi pins) ⊎ ((ins ≡ Add) × FitAdd pins)
+-- an instruction that can be made: addi or add, with all its operands pinned
+abbrev pub IsMakeableIns : InsChoice → Pins → Type 0
+IsMakeableIns (named_ins ins) pins = ((ins ≡ Addi) × FitAddi pins) ⊎ ((ins ≡ Add) × FitAdd pins)
+IsMakeableIns (by_tree tree) pins = ⊥
 
--- One hart, whose template has room in its page of code, and whose requests can be made.
+abbrev pub IsMakeablePlain : Plain → Type 0
+IsMakeablePlain (an_ins ins pins) = IsMakeableIns ins pins
+IsMakeablePlain (a_mem r) = ⊥
+IsMakeablePlain (a_jump r) = ⊥
+IsMakeablePlain (a_csr csr ins pins) = ⊥
+IsMakeablePlain (a_sys sys) = ⊥
+IsMakeablePlain (a_value value pins) = ⊥
+
+abbrev pub IsMakeableRequest : Request → Type 0
+IsMakeableRequest (a_plain p) = IsMakeablePlain p
+IsMakeableRequest (a_loop times counter body) = ⊥
+IsMakeableRequest (a_set tree path weight) = ⊥
+IsMakeableRequest (a_pick tree) = ⊥
+
+abbrev pub IsMakeable : ScriptItem → Type 0
+IsMakeable item = IsMakeableRequest item.request × (item.arms ≡ no_arms)
+
+-- the most requests that a template has
+abbrev pub most_requests : ℕ
+most_requests = 1000
+
+-- A hart in mode M with one page of code, whose template has room in it, and whose requests can be made.
+pub record IsPlainHart (hart : HartPlan) : Type 0 where
+  pub plain : hart ≡ record no_hart { template = hart.template }
+  pub room : length (script_of hart.template) ≤ most_requests
+  pub requests : AllByRecursion IsMakeable (script_of hart.template)
+
+-- the most harts that a job has
+abbrev pub most_harts : ℕ
+most_harts = 16
+
 pub record KeepsRules (work : Work) : Type 0 where
-  pub one_hart : hart_count work ≡ 1
-  pub room : length (template_of work 0) ≤ 1000
-  pub requests : AllByRecursion IsMakeable (template_of work 0)
+  pub some : 1 ≤ hart_count work
+  pub most : hart_count work ≤ most_harts
+  pub harts : AllByRecursion IsPlainHart work.harts
+  pub rest : work ≡ work_with work.harts

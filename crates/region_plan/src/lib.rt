@@ -2,10 +2,12 @@
 #![tactic(auto)]
 
 mod job;
+mod plan;
 mod request;
 
 pub use job::Job;
-pub use request::{Pins, Request};
+pub use plan::{HartPlan, Plan};
+pub use request::{InsChoice, Item, Pins, Request};
 
 #[cfg(test)]
 mod tests;

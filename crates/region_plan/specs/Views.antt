@@ -1,0 +1,53 @@
+-- The jobs that the types of this crate hold.
+use Rattle.std.specs.Prelude.{ℕ, ◌≡◌, ◌<◌, List, [], ◌∷◌, false, get_or, length, map}
+use Rattle.rv_fields.specs.declared.mode.Mode.TheVariants.{M}
+use Rattle.region_plan.specs.declared.job.Job.{Job}
+use Rattle.region_plan.specs.declared.plan.HartPlan as code
+use Rattle.region_plan.specs.declared.request.InsChoice as choice
+use Rattle.region_plan.specs.declared.request.InsChoice.TheVariants.{Named}
+use Rattle.region_plan.specs.declared.request.Item as item
+use Rattle.region_plan.specs.declared.request.Item.TheVariants.{One}
+use Rattle.region_plan.specs.declared.request.Pins as pinned
+use Rattle.region_plan.specs.declared.request.Request as asked
+use Rattle.region_plan.specs.declared.request.Request.TheVariants.{Ins}
+use Rattle.region_plan.specs.Plan.{HartPlan, Work, hart_count, no_hart, plan_of}
+use Rattle.region_plan.specs.Request.{InsChoice, Items, Pins, Request, a_plain, an_ins, named_ins, no_items, one}
+
+abbrev pub choice_seen : choice.InsChoice → InsChoice
+choice_seen (Named ins) = named_ins ins
+
+abbrev pub pins_seen : pinned.Pins → Pins
+pins_seen p = record { rd = p.rd; rs1 = p.rs1; rs2 = p.rs2; imm = p.imm; aqrl = 0; avoid = []; zero_rs1 = false }
+
+abbrev pub request_seen : asked.Request → Request
+request_seen (Ins ins pins) = a_plain (an_ins (choice_seen ins) (pins_seen pins))
+
+abbrev pub items_seen : List item.Item → Items
+items_seen [] = no_items
+items_seen (One request ∷ items) = one (request_seen request) (items_seen items)
+
+-- a hart with its template
+abbrev pub hart_seen : code.HartPlan → Items → HartPlan
+hart_seen hart template = record no_hart { mode = hart.mode; code_pages = hart.code_pages; template = template }
+
+-- harts with their templates, one for each
+abbrev pub harts_seen : List code.HartPlan → List Items → List HartPlan
+harts_seen [] templates = []
+harts_seen (hart ∷ harts) [] = []
+harts_seen (hart ∷ harts) (template ∷ templates) = hart_seen hart template ∷ harts_seen harts templates
+
+-- a hart of a plan, without its template; beyond the plan it is one of mode M
+abbrev pub plan_at : List code.HartPlan → ℕ → HartPlan
+plan_at harts h = hart_seen (get_or harts h (record { mode = M; code_pages = 1 })) no_items
+
+-- The plan has as many harts as the work, and says of each what the work says, but for its template.
+pub record IsPlannedBy (harts : List code.HartPlan) (work : Work) : Type 0 where
+  pub count : hart_count work ≡ length harts
+  pub same : (h : ℕ) → h < length harts → plan_of work h ≡ record (plan_at harts h) { template = (plan_of work h).template }
+
+-- the work of harts that a job leaves all else open: its greatest budget and number of frames, and neither spaces nor trees
+abbrev pub work_with : List HartPlan → Work
+work_with harts = record { budget = 16384; frames = 4096; objects = []; spaces = []; harts = harts; trees = [] }
+
+abbrev pub work_of : Job → Work
+work_of job = work_with (harts_seen job.plan.harts.items (map (λ t. items_seen t.items) job.templates.items))
