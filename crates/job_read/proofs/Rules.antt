@@ -5,18 +5,20 @@ use Rattle.std.specs.List.{AllByRecursion}
 use Rattle.std.proofs.lemmas.Bool.{and_parts, ltb-true, leb-true}
 use Rattle.std.proofs.lemmas.Option.{cond_some, same_Some}
 use Rattle.std.specs.Str.{bytes_eq}
-use Rattle.serde_json.specs.Data.{Data, Members, Items, no_items, item}
+use Rattle.serde_json.specs.Data.{Data, Members, Items as Values, no_items as no_values, item}
 use Rattle.serde_json.specs.Events.{items_len}
 use Rattle.serde_json.specs.Find.{as_array, get_member}
 use Rattle.rv_fields.specs.Attempt.{◌>>=◌}
-use Rattle.region_plan.specs.declared.request.Request.{Request}
 use Rattle.region_plan.specs.declared.job.Job.{Job}
-use Rattle.region_plan.specs.Rules.{IsMakeable, KeepsRules}
-use Rattle.region_plan.specs.Work.{Work, work_of}
+use Rattle.region_plan.specs.Plan.{HartPlan, Work, no_hart}
+use Rattle.region_plan.specs.Request.{Items, Request, no_items, one}
+use Rattle.region_plan.specs.Rules.{IsMakeable, IsMakeableRequest, IsPlainHart, KeepsRules, most_harts, most_requests}
+use Rattle.region_plan.specs.Script.{script_of}
+use Rattle.region_plan.specs.Views.{work_of, work_with}
 use Rattle.choice_tree.specs.declared.input.InputFault.{InputFault}
 use Rattle.choice_tree.specs.Input.{Reads}
 use Rattle.choice_tree.specs.Json.{object_of, natural_at, integer_at, text_at}
-use Rattle.job_read.specs.Accepted.{register_at, addi_of, add_of, request_of, requests_of, most_requests, template_of, hart_of, job_of}
+use Rattle.job_read.specs.Accepted.{register_at, addi_of, add_of, request_of, items_of, template_at, hart_of, harts_of, harts_at, job_of}
 
 -- two steps that found something: the first found what the second goes on with
 both_found : {A B : Type 0} (first : Option A) (next : A → Option B) (found : B) → (first >>= next) ≡ Some found → (x : A) × (first ≡ Some x) × (next x ≡ Some found)
@@ -31,81 +33,130 @@ register_small key members register e =
     rw (← passed.1) (ltb-true _ _ passed.0)
 
 -- a request that is accepted can be made
-addi_makeable : (members : Members) (request : Request) → addi_of members ≡ Some request → IsMakeable request
+addi_makeable : (members : Members) (request : Request) → addi_of members ≡ Some request → IsMakeableRequest request
 addi_makeable members request e =
     let rd = both_found (register_at (codes "rd") members) _ request e in
     let rs1 = both_found (register_at (codes "rs1") members) _ request rd.2 in
     let imm = both_found (integer_at (codes "imm") members) _ request rs1.2 in
     let passed = cond_some _ _ request imm.2 in
-    rw (← passed.1) (inl (
+    subst IsMakeableRequest passed.1 (inl (
       refl,
       record {
-        rd = register_small (codes "rd") members rd.0 rd.1;
-        rs1 = register_small (codes "rs1") members rs1.0 rs1.1;
+        plain = record {
+          aqrl = refl;
+          avoid = refl;
+          zero = refl;
+          rd = register_small (codes "rd") members rd.0 rd.1;
+          rs1 = register_small (codes "rs1") members rs1.0 rs1.1;
+        };
         rs2 = refl;
         imm = passed.0;
       },
     ))
 
-add_makeable : (members : Members) (request : Request) → add_of members ≡ Some request → IsMakeable request
+add_makeable : (members : Members) (request : Request) → add_of members ≡ Some request → IsMakeableRequest request
 add_makeable members request e =
     let rd = both_found (register_at (codes "rd") members) _ request e in
     let rs1 = both_found (register_at (codes "rs1") members) _ request rd.2 in
     let rs2 = both_found (register_at (codes "rs2") members) _ request rs1.2 in
-    rw (← same_Some _ _ rs2.2) (inr (
+    subst IsMakeableRequest (same_Some _ _ rs2.2) (inr (
       refl,
       record {
-        rd = register_small (codes "rd") members rd.0 rd.1;
-        rs1 = register_small (codes "rs1") members rs1.0 rs1.1;
+        plain = record {
+          aqrl = refl;
+          avoid = refl;
+          zero = refl;
+          rd = register_small (codes "rd") members rd.0 rd.1;
+          rs1 = register_small (codes "rs1") members rs1.0 rs1.1;
+        };
         rs2 = register_small (codes "rs2") members rs2.0 rs2.1;
         imm = refl;
       },
     ))
 
-request_makeable : (value : Data) (request : Request) → request_of value ≡ Some request → IsMakeable request
+request_makeable : (value : Data) (request : Request) → request_of value ≡ Some request → IsMakeableRequest request
 request_makeable value request e =
     let members = both_found (object_of 4 value) _ request e in
     let name = both_found (text_at (codes "ins") members.0) _ request members.2 in
     by (bytes_eq name.0 (codes "addi")) (bytes_eq name.0 (codes "add")) members.0 name.2
   where
-    by : (a b : Bool) (members : Members) → cond a (addi_of members) (cond b (add_of members) None) ≡ Some request → IsMakeable request
+    by : (a b : Bool) (members : Members) → cond a (addi_of members) (cond b (add_of members) None) ≡ Some request → IsMakeableRequest request
     by true b ms e = addi_makeable ms request e
     by false true ms e = add_makeable ms request e
     by false false ms e = absurd cc
 
--- accepted requests can be made, and are as many as their items
-requests_makeable : (items : Items) (requests : List Request) → requests_of items ≡ Some requests → AllByRecursion IsMakeable requests × (length requests ≡ items_len items)
-requests_makeable no_items requests e =
-    let none : [] ≡ requests = same_Some _ _ e in
+-- accepted items can be made, and are as many as their values
+items_makeable : (values : Values) (items : Items) → items_of values ≡ Some items
+    → AllByRecursion IsMakeable (script_of items) × (length (script_of items) ≡ items_len values)
+items_makeable no_values items e =
+    let none : no_items ≡ items = same_Some _ _ e in
     rw (← none) (tt, refl)
-requests_makeable (item value items) requests e =
-    let first = both_found (request_of value) _ requests e in
-    let others = both_found (requests_of items) _ requests first.2 in
-    let all : first.0 ∷ others.0 ≡ requests = same_Some _ _ others.2 in
-    let rest = requests_makeable items others.0 others.1 in
-    rw (← all) ((request_makeable value first.0 first.1, rest.0), ap suc rest.1)
+items_makeable (item value values) items e =
+    let first = both_found (request_of value) _ items e in
+    let others = both_found (items_of values) _ items first.2 in
+    let all : one first.0 others.0 ≡ items = same_Some _ _ others.2 in
+    let rest = items_makeable values others.0 others.1 in
+    rw (← all) (((request_makeable value first.0 first.1, refl), rest.0), ap suc rest.1)
 
--- an accepted template has room in its page
-template_has_room : (hart : Data) (items : Items) → template_of hart ≡ Some items → items_len items ≤ most_requests
-template_has_room hart items e =
-    let members = both_found (object_of 3 hart) _ items e in
-    let mode = both_found (text_at (codes "mode") members.0) _ items members.2 in
-    let code_pages = both_found (natural_at (codes "code_pages") members.0) _ items mode.2 in
-    let template = both_found (get_member (codes "template") members.0) _ items code_pages.2 in
-    let listed = both_found (as_array template.0) _ items template.2 in
-    let passed = cond_some _ _ items listed.2 in
+-- an accepted template has no more items than its code page has room for
+template_has_room : (hart : Data) (values : Values) → template_at hart ≡ Some values → items_len values ≤ most_requests
+template_has_room hart values e =
+    let members = both_found (object_of 3 hart) _ values e in
+    let mode = both_found (text_at (codes "mode") members.0) _ values members.2 in
+    let code_pages = both_found (natural_at (codes "code_pages") members.0) _ values mode.2 in
+    let template = both_found (get_member (codes "template") members.0) _ values code_pages.2 in
+    let listed = both_found (as_array template.0) _ values template.2 in
+    let passed = cond_some _ _ values listed.2 in
     rw (← passed.1) (leb-true _ _ (and_parts _ _ passed.0).1)
+
+-- an accepted hart is a plain one
+hart_plain : (value : Data) (hart : HartPlan) → hart_of value ≡ Some hart → IsPlainHart hart
+hart_plain value hart e =
+    let values = both_found (template_at value) _ hart e in
+    let items = both_found (items_of values.0) _ hart values.2 in
+    let made = items_makeable values.0 items.0 items.1 in
+    let room = template_has_room value values.0 values.1 in
+    let is_hart : record no_hart { template = items.0 } ≡ hart = same_Some _ _ items.2 in
+    subst IsPlainHart is_hart (record { plain = refl; room = omega (arith, made.1, room); requests = made.0 })
+
+-- accepted harts are plain ones, and as many as their values
+harts_plain : (values : Values) (harts : List HartPlan) → harts_of values ≡ Some harts
+    → AllByRecursion IsPlainHart harts × (length harts ≡ items_len values)
+harts_plain no_values harts e =
+    let none : [] ≡ harts = same_Some _ _ e in
+    rw (← none) (tt, refl)
+harts_plain (item value values) harts e =
+    let first = both_found (hart_of value) _ harts e in
+    let others = both_found (harts_of values) _ harts first.2 in
+    let all : first.0 ∷ others.0 ≡ harts = same_Some _ _ others.2 in
+    let rest = harts_plain values others.0 others.1 in
+    rw (← all) ((hart_plain value first.0 first.1, rest.0), ap suc rest.1)
+
+-- an accepted job has 1 to 16 harts
+harts_in_range : (value : Data) (values : Values) → harts_at value ≡ Some values → (1 ≤ items_len values) × (items_len values ≤ most_harts)
+harts_in_range value values e =
+    let members = both_found (object_of 2 value) _ values e in
+    let version = both_found (natural_at (codes "version") members.0) _ values members.2 in
+    let harts = both_found (get_member (codes "harts") members.0) _ values version.2 in
+    let listed = both_found (as_array harts.0) _ values harts.2 in
+    let passed = cond_some _ _ values listed.2 in
+    let most = and_parts _ _ passed.0 in
+    rw (← passed.1) (leb-true _ _ (and_parts _ _ most.0).1, leb-true _ _ most.1)
 
 -- the job of an accepted value keeps the rules
 job_keeps_rules : (value : Data) (work : Work) → job_of value ≡ Some work → KeepsRules work
 job_keeps_rules value work e =
-    let hart = both_found (hart_of value) _ work e in
-    let template = both_found (template_of hart.0) _ work hart.2 in
-    let requests = both_found (requests_of template.0) _ work template.2 in
-    let made = requests_makeable template.0 requests.0 requests.1 in
-    let room = template_has_room hart.0 template.0 template.1 in
-    let is_work : record { templates = requests.0 ∷ [] } ≡ work = same_Some _ _ requests.2 in
-    subst KeepsRules is_work (record { one_hart = refl; room = omega (arith, made.1, room); requests = made.0 })
+    let values = both_found (harts_at value) _ work e in
+    let harts = both_found (harts_of values.0) _ work values.2 in
+    let plain = harts_plain values.0 harts.0 harts.1 in
+    let range = harts_in_range value values.0 values.1 in
+    let is_work : work_with harts.0 ≡ work = same_Some _ _ harts.2 in
+    subst KeepsRules is_work (record {
+      some = omega (arith, plain.1, range.0);
+      most = omega (arith, plain.1, range.1);
+      harts = plain.0;
+      rest = refl;
+    })
 
 -- what is read of an accepted value keeps the rules
 pub reads_rules : (value : Data) (result : Result Job InputFault) → Reads work_of result (job_of value) → IfOk result (λ job. KeepsRules (work_of job))

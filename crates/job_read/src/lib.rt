@@ -1,6 +1,7 @@
 //! Reading a job.
 #![tactic(auto)]
 
+mod harts;
 mod reading;
 mod requests;
 

@@ -1,28 +1,29 @@
-ghost use Rattle.std.specs.Prelude.{◌≡◌};
+ghost use Rattle.std.specs.Prelude.{◌≡◌, option_map};
 ghost use Rattle.serde_json.specs.View.{view, items_view, members_view};
 ghost use Rattle.choice_tree.specs.Input.{Reads};
-ghost use Rattle.job_read.specs.Accepted.{register_at, addi_of, add_of, request_of, requests_of};
+ghost use Rattle.region_plan.specs.Views.{items_seen, request_seen};
+ghost use Rattle.job_read.specs.Accepted.{register_at, addi_of, add_of, request_of, items_of};
 
 use choice_tree::{InputFault, Members, integer_at, natural_at, object_of, text_at};
-use region_plan::{Pins, Request};
+use region_plan::{InsChoice, Item, Pins, Request};
 use rv_fields::{Ins, fits_i};
 use serde_json::Value;
 use std::alloc::Global;
 
-/// The requests of a template, in their order.
-pub(crate) fn requests_of(alloc: Global, items: &[Value]) -> Result<Vec<Request>, InputFault>
-    ensures { Reads (λ v. v.items) result (requests_of (items_view items.now)) }
+/// The items of a template, in their order.
+pub(crate) fn items_of(alloc: Global, values: &[Value]) -> Result<Vec<Item>, InputFault>
+    ensures { Reads (λ v. items_seen v.items) result (items_of (items_view values.now)) }
 {
-    let mut requests = Vec::with_capacity(alloc, items.len())?;
-    for item in items {
-        let request = request_of(item).ok_or(InputFault::NotBuilt)?;
-        requests.push(request)?;
+    let mut items = Vec::with_capacity(alloc, values.len())?;
+    for value in values {
+        let request = request_of(value).ok_or(InputFault::NotBuilt)?;
+        items.push(Item::One(request))?;
     }
-    Ok(requests)
+    Ok(items)
 }
 
 fn request_of(value: &Value) -> Option<Request>
-    ensures { result ≡ request_of (view value.now) }
+    ensures { option_map request_seen result ≡ request_of (view value.now) }
 {
     let members = object_of(4, value)?;
     match text_at("ins", members)? {
@@ -34,36 +35,36 @@ fn request_of(value: &Value) -> Option<Request>
 
 /// The request of an item whose instruction is `addi`.
 fn addi_of(members: &Members) -> Option<Request>
-    ensures { result ≡ addi_of (members_view members.now.entries) }
+    ensures { option_map request_seen result ≡ addi_of (members_view members.now.entries) }
 {
     let rd = register_at("rd", members)?;
     let rs1 = register_at("rs1", members)?;
     let imm = integer_at("imm", members)?;
     fits_i(imm).then_some(Request::Ins {
-        ins: Ins::Addi,
+        ins: InsChoice::Named(Ins::Addi),
         pins: Pins {
-            rd,
-            rs1,
-            rs2: 0,
-            imm,
+            rd: Some(rd),
+            rs1: Some(rs1),
+            rs2: None,
+            imm: Some(imm),
         },
     })
 }
 
 /// The request of an item whose instruction is `add`.
 fn add_of(members: &Members) -> Option<Request>
-    ensures { result ≡ add_of (members_view members.now.entries) }
+    ensures { option_map request_seen result ≡ add_of (members_view members.now.entries) }
 {
     let rd = register_at("rd", members)?;
     let rs1 = register_at("rs1", members)?;
     let rs2 = register_at("rs2", members)?;
     Some(Request::Ins {
-        ins: Ins::Add,
+        ins: InsChoice::Named(Ins::Add),
         pins: Pins {
-            rd,
-            rs1,
-            rs2,
-            imm: 0,
+            rd: Some(rd),
+            rs1: Some(rs1),
+            rs2: Some(rs2),
+            imm: None,
         },
     })
 }

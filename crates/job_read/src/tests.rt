@@ -1,6 +1,6 @@
 use super::*;
-use region_plan::{Pins, Request};
-use rv_fields::Ins;
+use region_plan::{HartPlan, InsChoice, Item, Pins, Request};
+use rv_fields::{Ins, Mode};
 use std::alloc::{AllocError, Global};
 use std::test::*;
 
@@ -23,14 +23,21 @@ fn job_of(alloc: Global, template: &str) -> Result<String, AllocError> {
     file_of(alloc, hart_of(alloc, template)?.as_str())
 }
 
-/// A template of so many requests, one or more.
-fn template_of(alloc: Global, count: usize) -> Result<String, AllocError> {
-    let mut template = String::from_str(alloc, ADDI)?;
+/// A list of so many of these, one or more.
+fn list_of(alloc: Global, text: &str, count: usize) -> Result<String, AllocError> {
+    let mut list = String::from_str(alloc, text)?;
     for _ in 1..count {
-        template.push_str(",")?;
-        template.push_str(ADDI)?;
+        list.push_str(",")?;
+        list.push_str(text)?;
     }
-    Ok(template)
+    Ok(list)
+}
+
+fn item(ins: Ins, pins: Pins) -> Item {
+    Item::One(Request::Ins {
+        ins: InsChoice::Named(ins),
+        pins,
+    })
 }
 
 fn is_not_built(alloc: Global, text: &str) -> bool {
@@ -43,20 +50,18 @@ fn reads_a_request(rt: HostRuntime) -> Result<(), Fail> {
         br#"{"version":1,"harts":[{"mode":"M","code_pages":1,"template":[{"ins":"addi","rd":1,"rs1":0,"imm":5}]}]}"#;
     let job = read_job(rt.alloc(), text)?;
     let pins = Pins {
-        rd: 1,
-        rs1: 0,
-        rs2: 0,
-        imm: 5,
+        rd: Some(1),
+        rs1: Some(0),
+        rs2: None,
+        imm: Some(5),
+    };
+    let plan = HartPlan {
+        mode: Mode::M,
+        code_pages: 1,
     };
     assert_eq!(rt; job.hart_count(), 1);
-    assert_eq!(rt;
-        job.template(0),
-        [Request::Ins {
-            ins: Ins::Addi,
-            pins
-        }]
-        .as_slice()
-    );
+    assert_eq!(rt; *job.plan().hart(0), plan);
+    assert_eq!(rt; job.template(0), [item(Ins::Addi, pins)].as_slice());
     Ok(())
 }
 
@@ -65,19 +70,36 @@ fn reads_a_sum_of_two_registers(rt: HostRuntime) -> Result<(), Fail> {
     let text = job_of(rt.alloc(), r#"{"rs2":31,"ins":"add","rd":3,"rs1":1}"#)?;
     let job = read_job(rt.alloc(), text.as_bytes())?;
     let pins = Pins {
-        rd: 3,
-        rs1: 1,
-        rs2: 31,
-        imm: 0,
+        rd: Some(3),
+        rs1: Some(1),
+        rs2: Some(31),
+        imm: None,
     };
-    assert_eq!(rt;
-        job.template(0),
-        [Request::Ins {
-            ins: Ins::Add,
-            pins
-        }]
-        .as_slice()
-    );
+    assert_eq!(rt; job.hart_count(), 1);
+    assert_eq!(rt; job.template(0), [item(Ins::Add, pins)].as_slice());
+    Ok(())
+}
+
+#[test]
+fn reads_two_harts_in_order(rt: HostRuntime) -> Result<(), Fail> {
+    let first = hart_of(rt.alloc(), list_of(rt.alloc(), ADDI, 3)?.as_str())?;
+    let text = file_of(
+        rt.alloc(),
+        format!(in rt.alloc(); "{first},{HART}")?.as_str(),
+    )?;
+    let job = read_job(rt.alloc(), text.as_bytes())?;
+    assert_eq!(rt; job.hart_count(), 2);
+    assert_eq!(rt; job.template(0).len(), 3);
+    assert!(rt; job.template(1).is_empty());
+    Ok(())
+}
+
+#[test]
+fn reads_up_to_16_harts(rt: HostRuntime) -> Result<(), Fail> {
+    let most = file_of(rt.alloc(), list_of(rt.alloc(), HART, 16)?.as_str())?;
+    assert_eq!(rt; read_job(rt.alloc(), most.as_bytes())?.hart_count(), 16);
+    let more = file_of(rt.alloc(), list_of(rt.alloc(), HART, 17)?.as_str())?;
+    assert!(rt; is_not_built(rt.alloc(), more.as_str()));
     Ok(())
 }
 
@@ -111,11 +133,11 @@ fn reads_an_empty_template(rt: HostRuntime) -> Result<(), Fail> {
 
 #[test]
 fn reads_up_to_1000_requests(rt: HostRuntime) -> Result<(), Fail> {
-    let most = job_of(rt.alloc(), template_of(rt.alloc(), 1000)?.as_str())?;
+    let most = job_of(rt.alloc(), list_of(rt.alloc(), ADDI, 1000)?.as_str())?;
     let job = read_job(rt.alloc(), most.as_bytes())?;
     assert_eq!(rt; job.hart_count(), 1);
     assert_eq!(rt; job.template(0).len(), 1000);
-    let more = job_of(rt.alloc(), template_of(rt.alloc(), 1001)?.as_str())?;
+    let more = job_of(rt.alloc(), list_of(rt.alloc(), ADDI, 1001)?.as_str())?;
     assert!(rt; is_not_built(rt.alloc(), more.as_str()));
     Ok(())
 }
@@ -156,13 +178,12 @@ fn refuses_other_requests(rt: HostRuntime) -> Result<(), Fail> {
 
 #[test]
 fn refuses_other_harts(rt: HostRuntime) -> Result<(), Fail> {
-    let two = format!(in rt.alloc(); "{HART},{HART}")?;
     for harts in [
         "",
-        two.as_str(),
         r#"{"mode":"S","code_pages":1,"template":[]}"#,
         r#"{"mode":"M","code_pages":2,"template":[]}"#,
         r#"{"mode":"M","code_pages":1}"#,
+        r#"{"mode":"M","code_pages":1,"template":[]},{"mode":"S","code_pages":1,"template":[]}"#,
     ] {
         let text = file_of(rt.alloc(), harts)?;
         assert!(rt; is_not_built(rt.alloc(), text.as_str()), "{harts}");

@@ -1,0 +1,76 @@
+ghost use Rattle.std.specs.Prelude.{◌≡◌, option_map};
+ghost use Rattle.serde_json.specs.View.{view, items_view};
+ghost use Rattle.choice_tree.specs.Input.{Reads};
+ghost use Rattle.region_plan.specs.Views.{hart_seen, items_seen, work_of};
+ghost use Rattle.job_read.specs.Accepted.{template_at, hart_of, harts_of, harts_at};
+
+use crate::requests::items_of;
+use choice_tree::{InputFault, natural_at, object_of, text_at, value_at};
+use region_plan::{HartPlan, Item, Job, Plan};
+use rv_fields::Mode;
+use serde_json::Value;
+use std::alloc::Global;
+
+/// The most harts that a job has.
+const MOST_HARTS: usize = 16;
+
+/// The most requests that a template has.
+const MOST_REQUESTS: usize = 1000;
+
+/// The harts of a job.
+#[tactic(auto, using(choice_tree::proofs::Reading::lengths))]
+pub(crate) fn harts_at(value: &Value) -> Option<&[Value]>
+    ensures { option_map (λ vs. items_view vs.now) result ≡ harts_at (view value.now) }
+{
+    let members = object_of(2, value)?;
+    let version = natural_at("version", members)?;
+    let harts = value_at("harts", members)?.as_array()?;
+    if version == 1 && 1 <= harts.len() && harts.len() <= MOST_HARTS {
+        Some(harts.as_slice())
+    } else {
+        None
+    }
+}
+
+/// The job of these harts, in their order.
+pub(crate) fn harts_of(alloc: Global, values: &[Value]) -> Result<Job, InputFault>
+    ensures { Reads (λ job. (work_of job).harts) result (harts_of (items_view values.now)) }
+{
+    let mut harts = Vec::with_capacity(alloc, values.len())?;
+    let mut templates = Vec::with_capacity(alloc, values.len())?;
+    for value in values {
+        let (hart, template) = hart_of(alloc, value)?;
+        harts.push(hart)?;
+        templates.push(template)?;
+    }
+    Ok(Job::new(Plan::new(harts), templates))
+}
+
+/// A hart, and its template.
+fn hart_of(alloc: Global, value: &Value) -> Result<(HartPlan, Vec<Item>), InputFault>
+    ensures { Reads (λ h. hart_seen h.0 (items_seen h.1.items)) result (hart_of (view value.now)) }
+{
+    let values = template_at(value).ok_or(InputFault::NotBuilt)?;
+    let template = items_of(alloc, values)?;
+    let hart = HartPlan {
+        mode: Mode::M,
+        code_pages: 1,
+    };
+    Ok((hart, template))
+}
+
+/// The template of a hart in mode M with one page of code.
+#[tactic(auto, using(choice_tree::proofs::Reading::lengths))]
+fn template_at(hart: &Value) -> Option<&[Value]>
+    ensures { option_map (λ vs. items_view vs.now) result ≡ template_at (view hart.now) }
+{
+    let members = object_of(3, hart)?;
+    let mode = text_at("mode", members)?;
+    let code_pages = natural_at("code_pages", members)?;
+    let values = value_at("template", members)?.as_array()?;
+    if mode == "M" && code_pages == 1 && values.len() <= MOST_REQUESTS {
+        Some(values.as_slice())
+    } else {
+        None
+    }
+}
