@@ -1,3 +1,5 @@
 pub mod Layout
 pub mod Boot
 pub mod Startup
+pub mod Booting
+pub mod Passing

@@ -17,10 +17,10 @@ const BOOT_BLOCKS_AT: u64 = 0x8000_1000;
 const BOOT_BLOCK_STEP: u64 = 0x1000;
 
 /// How far the values of the CSRs stand behind the start of their boot block.
-pub const CSRS_OFFSET: u32 = 0x400;
+pub const CSRS_OFFSET: u16 = 0x400;
 
 /// How far the values of x1 to x31 stand behind the start of their boot block.
-pub const REGISTERS_OFFSET: u32 = 0x478;
+pub const REGISTERS_OFFSET: u16 = 0x478;
 
 /// Where the code window of hart 0 begins.
 const CODE_WINDOWS_AT: u64 = 0x8400_0000;

@@ -4,6 +4,7 @@
 mod block;
 mod entry;
 mod layout;
+mod spelling;
 mod start;
 #[cfg(test)]
 mod tests;

@@ -1,9 +1,24 @@
+ghost use Rattle.std.specs.Prelude.{◌≡◌, length, IfOk};
+
 use crate::{
     boot_block, boot_block_at, boot_csrs_at, boot_registers_at, boot_values, code_start,
     dispatcher, handler,
 };
+use region_plan::{HartPlan, Plan};
 use rv_fields::Mode;
+use std::test::*;
 use value_file::ValueFile;
+
+/// Two harts of mode M.
+fn two_harts(rt: HostRuntime) -> Result<Plan, Fail>
+    ensures { IfOk result (λ plan. length plan.harts.items ≡ 2) }
+{
+    let hart = HartPlan {
+        mode: Mode::M,
+        code_pages: 1,
+    };
+    Ok(Plan::new(vec![in rt.alloc(); hart, hart]?))
+}
 
 #[test]
 fn the_dispatcher_of_one_hart(rt: HostRuntime) {
@@ -55,7 +70,8 @@ fn the_handlers(rt: HostRuntime) {
 }
 
 #[test]
-fn the_values_of_hart_0(rt: HostRuntime) {
+fn the_values_of_hart_0(rt: HostRuntime) -> Result<(), Fail> {
+    let plan = two_harts(rt)?;
     let mut registers = ValueFile::new();
     assert!(rt; !registers.touched(1));
     registers.fix(1, 7);
@@ -63,7 +79,7 @@ fn the_values_of_hart_0(rt: HostRuntime) {
     registers.write(2, 9);
     assert!(rt; !registers.touched(31));
     registers.fix(31, u64::MAX);
-    let values = boot_values(0, &registers);
+    let values = boot_values(&plan, 0, &registers);
     let csrs = [
         0x1800,
         0,
@@ -86,12 +102,15 @@ fn the_values_of_hart_0(rt: HostRuntime) {
     x[0] = 7;
     x[30] = u64::MAX;
     assert_eq!(rt; values.x, x);
+    Ok(())
 }
 
 #[test]
-fn hart_1_starts_in_its_own_window(rt: HostRuntime) {
-    assert_eq!(rt; boot_values(1, &ValueFile::new()).csrs[6], 0x8410_0000);
+fn hart_1_starts_in_its_own_window(rt: HostRuntime) -> Result<(), Fail> {
+    let values = boot_values(&two_harts(rt)?, 1, &ValueFile::new());
+    assert_eq!(rt; values.csrs[6], 0x8410_0000);
     assert_eq!(rt; code_start(1), 0x8410_0000);
+    Ok(())
 }
 
 #[test]
