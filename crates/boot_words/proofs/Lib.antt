@@ -1,4 +1,10 @@
 pub mod Words
 pub mod Table
-pub mod Examples
 pub mod Started
+pub mod Running
+pub mod Dispatched
+pub mod Loading
+pub mod Cleared
+pub mod Booted
+pub mod Spelt
+pub mod AllBoot

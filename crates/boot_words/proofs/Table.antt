@@ -5,7 +5,7 @@ use Rattle.std.proofs.Math.ListN.{length-set}
 use Rattle.std.proofs.lemmas.Grind.{same_number_lists}
 use Rattle.std.specs.List.{range_with_len}
 use Rattle.std.specs.Prelude.{unwrap_or}
-use Rattle.boot_words.specs.Boot.{boot_registers}
+use Rattle.boot_words.specs.Boot.{boot_register, boot_registers}
 
 length_mapped : (f : ℕ → ℕ) (a n : ℕ) → length (map f (range_with_len a n)) ≡ n
 length_mapped f a zero = refl
@@ -37,7 +37,7 @@ lay_more initial x place value room before is =
 -- all of them are laid
 pub whole_table : (initial : ℕ → Option ℕ) (x : List ℕ) → IsTableUpTo initial 31 x → x ≡ boot_registers initial
 whole_table initial x before =
-    let f : ℕ → ℕ = λ r. unwrap_or (initial r) 0 in
+    let f : ℕ → ℕ = boot_register initial in
     same_number_lists _ _ (before.long ∙ sym_length f) (λ k lt.
     let below : k < 31 = omega (arith, before.long, lt) in
     let index : k + 1 ≡ 1 + k = omega arith in
@@ -52,4 +52,4 @@ whole_table initial x before =
 -- the value of the register after so many
 pub table_at : (initial : ℕ → Option ℕ) (place : ℕ) → place < 31 → get_or (boot_registers initial) place 0 ≡ unwrap_or (initial (place + 1)) 0
 table_at initial place below =
-    let index : 1 + place ≡ place + 1 = omega arith in mapped_at (λ r. unwrap_or (initial r) 0) 1 31 place below ∙ ap (λ r. unwrap_or (initial r) 0) index
+    let index : 1 + place ≡ place + 1 = omega arith in mapped_at (boot_register initial) 1 31 place below ∙ ap (boot_register initial) index

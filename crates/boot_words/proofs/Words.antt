@@ -5,7 +5,8 @@ use Rattle.std.proofs.Math.ListN.{length-set}
 use Rattle.std.proofs.lemmas.Grind.{same_number_lists}
 use Rattle.std.proofs.lemmas.Bool.{eqb-true}
 use Rattle.std.proofs.lemmas.Bool.Decides.{eqb_tells}
-use Rattle.boot_words.specs.Boot.{boot_block, boot_csr_numbers, load_word, write_word}
+use Rattle.rv_fields.specs.declared.csr.Csr.TheVariants.{Sstatus}
+use Rattle.boot_words.specs.Boot.{boot_block, boot_csr_list, mret, spelled, swap_csr, table_load}
 
 -- whether the test holds at each number below n
 unfoldable pub holds_below : (ℕ → Bool) → ℕ → Bool
@@ -29,19 +30,19 @@ holds_at p (suc n) h k lt =
       | inr other ↦ holds_at p n (second_true (p n) (holds_below p n) h) k (let ne : k ≢ n = other.1 in omega arith)
     ]
 
-pub csr_load_at : (k : ℕ) → k < 15 → load_word 30 (0x400 + 8 * k) ≡ get_or boot_block (2 * k + 1) 0
+pub csr_load_at : (k : ℕ) → k < 15 → spelled (table_load 30 (0x400 + 8 * k)) ≡ get_or boot_block (2 * k + 1) 0
 unfolding holds_below
-csr_load_at k lt = eqb-true _ _ (holds_at (λ i. eqb (load_word 30 (0x400 + 8 * i)) (get_or boot_block (2 * i + 1) 0)) 15 refl k lt)
+csr_load_at k lt = eqb-true _ _ (holds_at (λ i. eqb (spelled (table_load 30 (0x400 + 8 * i))) (get_or boot_block (2 * i + 1) 0)) 15 refl k lt)
 
-pub csr_write_at : (k : ℕ) → k < 15 → write_word (get_or boot_csr_numbers k 0) ≡ get_or boot_block (2 * k + 2) 0
+pub csr_write_at : (k : ℕ) → k < 15 → spelled (swap_csr 0 (get_or boot_csr_list k Sstatus) 30) ≡ get_or boot_block (2 * k + 2) 0
 unfolding holds_below
 csr_write_at k lt =
-    eqb-true _ _ (holds_at (λ i. eqb (write_word (get_or boot_csr_numbers i 0)) (get_or boot_block (2 * i + 2) 0)) 15 refl k lt)
+    eqb-true _ _ (holds_at (λ i. eqb (spelled (swap_csr 0 (get_or boot_csr_list i Sstatus) 30)) (get_or boot_block (2 * i + 2) 0)) 15 refl k lt)
 
-pub register_load_at : (k : ℕ) → k < 31 → load_word (k + 1) (0x478 + 8 * k) ≡ get_or boot_block (31 + k) 0
+pub register_load_at : (k : ℕ) → k < 31 → spelled (table_load (k + 1) (0x478 + 8 * k)) ≡ get_or boot_block (31 + k) 0
 unfolding holds_below
 register_load_at k lt =
-    eqb-true _ _ (holds_at (λ i. eqb (load_word (i + 1) (0x478 + 8 * i)) (get_or boot_block (31 + i) 0)) 31 refl k lt)
+    eqb-true _ _ (holds_at (λ i. eqb (spelled (table_load (i + 1) (0x478 + 8 * i))) (get_or boot_block (31 + i) 0)) 31 refl k lt)
 
 -- the 63 words are those of the boot block as far as place n
 pub record IsBlockUpTo (n : ℕ) (words : List ℕ) : Type 0 where
@@ -63,7 +64,7 @@ write_more words place word n next room before is =
     }
 
 -- with its last word the block is whole
-pub whole_block : (words : List ℕ) → IsBlockUpTo 62 words → set words 62 0x30200073 ≡ boot_block
+pub whole_block : (words : List ℕ) → IsBlockUpTo 62 words → set words 62 (spelled mret) ≡ boot_block
 whole_block words before =
-    let whole : IsBlockUpTo 63 (set words 62 0x30200073) = write_more words 62 0x30200073 63 refl (lit< tt) before refl in
+    let whole : IsBlockUpTo 63 (set words 62 (spelled mret)) = write_more words 62 (spelled mret) 63 refl (lit< tt) before refl in
     same_number_lists _ _ whole.long (λ k lt. whole.same k (omega arith))
