@@ -1,0 +1,2 @@
+//! What a request's operands may be, and which of them drawn words choose.
+#![tactic(auto)]

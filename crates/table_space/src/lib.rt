@@ -1,0 +1,2 @@
+//! The page tables of address spaces.
+#![tactic(auto)]
