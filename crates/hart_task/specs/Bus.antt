@@ -17,5 +17,5 @@ links_seen None h g = None
 links_seen (Some l) h g = linked l.hart l.granule (λ h g. None) h g
 
 -- no link is held yet, and no store there can change a byte
-abbrev pub HasRoom : Option Link → ℕ → Type 0
-HasRoom link at = IsNone link × ((size : ℕ) → in_ram at size ≡ false)
+abbrev pub HasLinkRoom : Option Link → ℕ → Type 0
+HasLinkRoom link at = IsNone link × ((size : ℕ) → in_ram at size ≡ false)

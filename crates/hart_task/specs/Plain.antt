@@ -1,0 +1,30 @@
+-- Steps that leave memory alone and take no trap.
+use Rattle.std.specs.Prelude.{ℕ, ◌≡◌, [], IsSome, Option, Some, None}
+use Rattle.rv_fields.specs.Effect.{Effect}
+use Rattle.rv_fields.specs.Hart.{Hart, Registers}
+use Rattle.rv_fields.specs.Laws.{with_registers}
+use Rattle.rv_fields.specs.Step.{Stepped, step}
+use Rattle.hart_task.specs.Bus.{word_seen}
+
+-- what such a step of a word that stands at the hart's pc does
+abbrev pub plain_effect : Hart → ℕ → Option (ℕ × ℕ) → Effect
+plain_effect hart word rd = record {
+  hart = hart.number;
+  pc = hart.pc;
+  pa = Some hart.pc;
+  word = Some word;
+  rd = rd;
+  access = None;
+  trail = [];
+  trap = None;
+}
+
+-- The word that stands at the hart's pc makes such a step.
+pub record StepsPlainly (hart : Hart) (word : ℕ) : Type 0 where
+  pub stepped : Stepped
+  pub steps : step (word_seen hart.pc word) hart ≡ Some stepped
+  pub plain : stepped.effect ≡ plain_effect hart word stepped.effect.rd
+
+-- it does so whatever stands in the hart's registers
+abbrev pub IsPlainFor : Hart → ℕ → Type 0
+IsPlainFor hart word = (x : Registers) → ((r : ℕ) → IsSome (x r)) → StepsPlainly (with_registers x hart) word
