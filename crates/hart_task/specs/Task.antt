@@ -1,218 +1,216 @@
--- A hart's task and its log, as runs of the hart's machine.
-use Rattle.std.specs.Prelude.{ℕ, ◌≡◌, ◌+◌, ◌-◌, ◌*◌, ◌≤◌, ◌<◌, ◌⊎◌, List, [], ◌∷◌, ◌++◌, ◌^◌, length, drop, Some, None, IsSome, IsTrue}
-use Rattle.region_plan.specs.declared.request.Request.{Request}
-use Rattle.region_plan.specs.Work.{Work, hart_count, template_of}
-use Rattle.choice_tree.specs.Draws.{Draws, word_of}
-use Rattle.value_file.specs.Values.{initial_of, present_of}
-use Rattle.trace_text.specs.Lines.{Line, starting}
-use Rattle.trace_text.specs.Views.{lines_seen}
-use Rattle.world_face.specs.Runs.{Runs}
-use Rattle.world_face.specs.Events.{Log, AddsEvent}
-use Rattle.boot_words.specs.Layout.{code_address}
+-- A hart's task: the state of its hart's machine at which it stands, and what a turn makes of it.
+use Rattle.std.specs.Prelude.{Bool, true, false, ℕ, ◌≡◌, ◌+◌, ◌-◌, ◌*◌, ◌^◌, ◌<◌, ◌≤◌, List, [], ◌∷◌, ◌++◌, drop, filter, is_none, length, Option, Some, None, slice_get}
+use Rattle.std.specs.List.{AllByRecursion}
+use Rattle.rv_fields.specs.declared.class.Class.TheVariants.{Computes}
 use Rattle.rv_fields.specs.declared.mode.Mode.TheVariants.{M}
-use Rattle.rv_fields.specs.Decode.{decoded}
+use Rattle.rv_fields.specs.Class.{class_of}
+use Rattle.rv_fields.specs.Decode.{Decoded, decoded, rs1_read, sources}
 use Rattle.rv_fields.specs.Effect.{Effect}
-use Rattle.rv_fields.specs.Hart.{Hart, Registers, updated}
+use Rattle.rv_fields.specs.Hart.{Hart}
 use Rattle.rv_fields.specs.Laws.{TellsMore, with_registers}
-use Rattle.rv_fields.specs.Memory.{in_ram}
-use Rattle.rv_fields.specs.Step.{behind, step, with_write}
+use Rattle.rv_fields.specs.Step.{step, with_write}
 use Rattle.rv_step.specs.Views.{hart_seen}
-use Rattle.trace_text.specs.Lines.{request, fixed, made, ending, done}
-use Rattle.hart_task.specs.declared.log.HartLog.{HartLog}
+use Rattle.choice_tree.specs.Draws.{Draws, skipped}
+use Rattle.region_plan.specs.Plan.{Work, hart_count, plan_of}
+use Rattle.region_plan.specs.Request.{Quiet}
+use Rattle.region_plan.specs.Script.{ScriptItem, script_of}
+use Rattle.trace_text.specs.Lines.{Line, starting, done}
+use Rattle.trace_text.specs.Traces.{KeepsRanges}
+use Rattle.boot_words.specs.Layout.{code_address}
+use Rattle.world_face.specs.Events.{Event, Placed, no_parts, nothing_asked}
 use Rattle.hart_task.specs.declared.log.Turned.{Turned}
 use Rattle.hart_task.specs.declared.log.Turned.TheVariants as turned
+use Rattle.hart_task.specs.declared.task.HartTask.{HartTask}
 use Rattle.hart_task.specs.declared.task.Phase as task
 use Rattle.hart_task.specs.declared.task.Phase.TheVariants as tasks
-use Rattle.hart_task.specs.declared.task.HartTask.{HartTask}
-use Rattle.hart_task.specs.Answering.{kind_of, stream_of, end_word}
+use Rattle.hart_task.specs.Acts.{Fixing, fixing_lines, is_last, is_made, step_line}
 use Rattle.hart_task.specs.Bus.{word_seen}
-use Rattle.hart_task.specs.Machine.{HartState, Phase, between, begun, finished, start, legal, after, asked, effect_word, plain_effect, with_register}
-
--- the lines of a log, and the log of a task
-abbrev pub log_lines : HartLog → List Line
-log_lines log = lines_seen log.lines.items
-
-abbrev pub log_seen : HartLog → Log
-log_seen log = record { lines = log_lines log; ends = log.ends.items }
-
--- a finished hart's lines are a run of its machine from start to end
-pub record IsFinishedRun (work : Work) (seed h : ℕ) (lines : List Line) : Type 0 where
-  pub end : HartState
-  pub run : Runs legal after (start work seed h) lines end
-  pub is_finished : end.phase ≡ finished
-
--- a finished hart's log: its words are those that the run made, no more than a page holds, and its values have been
--- fixed exactly by the lines
-pub record IsLogOf (work : Work) (seed h : ℕ) (log : HartLog) : Type 0 where
-  pub run : IsFinishedRun work seed h (log_lines log)
-  pub words : run.end.words ≡ log.words.items
-  pub values : (r : ℕ) → initial_of log.values r ≡ starting (log_lines log) h r
-  pub room : length log.words.items ≤ 1024
-
-abbrev pub phase_seen : task.Phase → Phase
-phase_seen tasks.Between = between
-phase_seen (tasks.Begun r) = begun r
-phase_seen tasks.Finished = finished
-
--- how many requests have begun, where so many are done
-abbrev pub begun_count : task.Phase → ℕ → ℕ
-begun_count tasks.Between count = count
-begun_count (tasks.Begun r) count = count + 1
-begun_count tasks.Finished count = count
-
--- how many words were made then
-abbrev pub word_count : task.Phase → ℕ → ℕ
-word_count tasks.Between count = count
-word_count (tasks.Begun r) count = count
-word_count tasks.Finished count = count + 1
-
--- the request under way is the one after those that are done
-abbrev pub IsNext : List Request → ℕ → task.Phase → Type 0
-IsNext template count tasks.Between = Unit {0}
-IsNext template count (tasks.Begun r) = drop count template ≡ r ∷ drop (count + 1) template
-IsNext template count tasks.Finished = Unit {0}
+use Rattle.hart_task.specs.Log.{LogSeen, events_of, log_seen}
+use Rattle.hart_task.specs.OneRun.{IsFinishedRun, RunsTo, all_lines}
+use Rattle.hart_task.specs.Schedule.{ends_hart}
+use Rattle.hart_task.specs.State.{HartState, Phase, between, entries_at_first, finished, is_done, making}
+use Rattle.hart_task.specs.Stepping.{fixed_in, late_registers}
 
 -- a task without where it lies in memory
 pub record TaskSeen : Type 0 where
   pub hart : Hart
   pub phase : task.Phase
-  pub done : ℕ
+  pub begun : ℕ
   pub draws : Draws
-  pub initial : Registers
-  pub present : Registers
-  pub log : Log
-  pub words : List ℕ
+  pub log : LogSeen
 
 abbrev pub task_seen : HartTask → TaskSeen
-task_seen t = record {
-  hart = hart_seen t.hart;
-  phase = t.phase;
-  done = t.done;
+task_seen t = record { hart = hart_seen t.hart; phase = t.phase; begun = t.begun; draws = t.draws; log = log_seen t.log }
+
+-- ---- the state at which it stands
+
+abbrev pub phase_seen : task.Phase → Phase
+phase_seen tasks.Between = between
+phase_seen (tasks.Making m) = making (record { k = m.k; words = m.word ∷ []; sequel = is_done (Some Quiet) })
+phase_seen tasks.Finished = finished
+
+-- the requests of a hart, in their order
+abbrev pub script : Work → ℕ → List ScriptItem
+script work h = script_of (plan_of work h).template
+
+abbrev pub state_of : Work → TaskSeen → HartState
+state_of work t = record {
+  hart = with_registers t.log.present t.hart;
+  picks = record { seed = t.draws.seed; stream = 2 * t.hart.number; drawn = 0 };
   draws = t.draws;
-  initial = initial_of t.log.values;
-  present = present_of t.log.values;
-  log = log_seen t.log;
-  words = t.log.words.items;
+  words = λ index. slice_get t.log.words index;
+  entries = entries_at_first work (plan_of work t.hart.number).space;
+  left = drop t.begun (script work t.hart.number);
+  count = t.begun;
+  steps = length t.log.words;
+  loop = None;
+  phase = phase_seen t.phase;
 }
 
--- The task stands at a state of the hart's machine.
-pub record Stands (work : Work) (t : TaskSeen) (s : HartState) : Type 0 where
-  pub run : Runs legal after (start work t.draws.seed t.hart.number) t.log.lines s
-  pub member : t.hart.number < hart_count work
-  -- the state's hart is the task's, of whose registers those are told that have a value
-  pub machine : s.machine ≡ with_registers t.present t.hart
-  pub held : TellsMore t.present t.hart.x
-  pub zero : t.present 0 ≡ Some 0
-  pub mode : t.hart.mode ≡ M
-  -- what the lines fix was drawn, and no more
-  pub initial : (r : ℕ) → t.initial r ≡ starting t.log.lines t.hart.number r
-  pub draws : t.draws ≡ record { seed = s.seed; stream = stream_of t.hart.number; drawn = s.drawn }
-  pub few : t.draws.drawn ≤ length t.log.lines
-  pub phase : s.phase ≡ phase_seen t.phase
-  pub count : s.count ≡ t.done
-  pub left : s.left ≡ drop (begun_count t.phase t.done) (template_of work t.hart.number)
-  pub request : IsNext (template_of work t.hart.number) t.done t.phase
-  pub many : begun_count t.phase t.done ≤ length (template_of work t.hart.number)
-  pub words : s.words ≡ t.words
-  pub made : length t.words ≡ word_count t.phase t.done
-  -- the pc is at the word of the first request that isn't done, or at the ending one
-  pub place : t.hart.pc ≡ code_address t.hart.number t.done
+-- how many words were made when so many requests have begun
+abbrev pub words_made : task.Phase → ℕ → ℕ
+words_made tasks.Between begun = begun
+words_made (tasks.Making m) begun = begun - 1
+words_made tasks.Finished begun = begun + 1
 
--- The task is one of the job's: its log so far is a run of its hart's machine.
-pub record IsTaskOf (work : Work) (t : HartTask) : Type 0 where
-  pub state : HartState
-  pub stands : Stands work (task_seen t) state
+-- the word's row, which has no number in the place of rs1
+abbrev pub IsRowOf : ℕ → Decoded → Type 0
+IsRowOf word d = (decoded word ≡ Some d) × (rs1_read d ≡ d.ops.rs1)
+
+-- the request that makes its word is the last that has begun, and its word computes a value
+abbrev pub IsMaking : task.Phase → ℕ → Type 0
+IsMaking tasks.Between begun = Unit {0}
+IsMaking (tasks.Making m) begun = (m.k + 1 ≡ begun) × (m.word < 2 ^ 32) × ((d : Decoded) × IsRowOf m.word d × (class_of d.ins ≡ Computes))
+IsMaking tasks.Finished begun = Unit {0}
+
+-- the word at which pc stands, counted from the window's first
+abbrev pub index_at : task.Phase → ℕ → ℕ
+index_at tasks.Between words = words
+index_at (tasks.Making m) words = words
+index_at tasks.Finished words = words - 1
+
+-- The task stands where a run of its hart's machine leads.
+pub record Stands (work : Work) (t : TaskSeen) : Type 0 where
+  pub run : RunsTo work t.draws.seed t.hart.number (events_of t.log.events) (state_of work t)
+  pub member : t.hart.number < hart_count work
+  -- what is known of the hart: its registers are those that have a value
+  pub held : TellsMore t.log.present t.hart.x
+  pub zero : t.log.present 0 ≡ Some 0
+  pub mode : t.hart.mode ≡ M
+  pub place : t.hart.pc ≡ code_address t.hart.number (index_at t.phase (length t.log.words))
+  -- the lines fix what starts with a value, and no more was drawn
+  pub fresh : (r : ℕ) → t.log.present r ≡ None → t.log.initial r ≡ None
+  pub initial : (r : ℕ) → t.log.initial r ≡ starting (all_lines (events_of t.log.events)) t.hart.number r
+  pub stream : t.draws.stream ≡ 2 * t.hart.number + 1
+  pub few : t.draws.drawn ≤ 2 * length t.log.words
+  pub words : length t.log.words ≡ words_made t.phase t.begun
+  -- each event begins a request or makes a word
+  pub events : length t.log.events ≡ t.begun + length t.log.words
+  pub making : IsMaking t.phase t.begun
+  pub many : t.begun ≤ length (script work t.hart.number)
+
+abbrev pub IsTaskOf : Work → HartTask → Type 0
+IsTaskOf work t = Stands work (task_seen t)
+
+-- A finished hart's log: its events are a run from start to end, its words are those that the run made, no more than a page
+-- holds, and its values were fixed by the lines alone.
+pub record IsLogOf (work : Work) (seed h : ℕ) (log : LogSeen) : Type 0 where
+  pub run : IsFinishedRun work seed h (events_of log.events)
+  pub words : run.end.words ≡ (λ index. slice_get log.words index)
+  pub steps : run.end.steps ≡ length log.words
+  pub values : (r : ℕ) → log.initial r ≡ starting (all_lines (events_of log.events)) h r
+  pub room : length log.words ≤ 1024
+  pub few : length log.events ≤ 2 * length log.words
 
 -- how many events are left until the hart is finished: two for each request, and the ending step
 abbrev pub phase_left : task.Phase → ℕ
 phase_left tasks.Between = 1
-phase_left (tasks.Begun r) = 0
+phase_left (tasks.Making m) = 2
 phase_left tasks.Finished = 0
 
-abbrev pub events_left : Work → HartTask → ℕ
-events_left work t = 2 * (length (template_of work t.hart.number) - t.done) + phase_left t.phase
+abbrev pub events_left : Work → TaskSeen → ℕ
+events_left work t = 2 * (length (script work t.hart.number) - t.begun) + phase_left t.phase
 
--- What a turn was: an event more at this place, or nothing since the task was finished before.
-abbrev pub IsTurn : Turned → HartTask → HartTask → Type 0
-IsTurn (turned.Event place) old new = AddsEvent (log_seen old.log) (log_seen new.log) place
-IsTurn turned.Finished old new = (old.phase ≡ tasks.Finished) × (task_seen new ≡ task_seen old)
+-- ---- what a turn is
 
--- ---- what each kind of event does to the task
+abbrev pub is_finished : task.Phase → Bool
+is_finished tasks.Between = false
+is_finished (tasks.Making m) = false
+is_finished tasks.Finished = true
 
--- the next request begins
-pub record BeginsRequest (r : Request) (old new : TaskSeen) : Type 0 where
-  pub task : new ≡ record old {
-    phase = tasks.Begun r;
-    log = record {
-      lines = old.log.lines ++ request old.hart.number old.done (kind_of r) ∷ [];
-      ends = old.log.ends ++ length (old.log.lines ++ request old.hart.number old.done (kind_of r) ∷ []) ∷ [];
-    };
-  }
+-- A turn is one event of the hart, at the place that it took in the world; or there was none, since the hart was finished. What a
+-- world stood for before and stands for now is handed in.
+abbrev pub IsTurn : Turned → TaskSeen → TaskSeen → (List Placed → Type 0) → (List Placed → Type 0) → Type 0
+IsTurn (turned.Event place) old new before now = (event : Event)
+    × (new.log.events ≡ old.log.events ++ record { place = place; event = event } ∷ [])
+    × (event.hart ≡ old.hart.number)
+    × (event.parts ≡ no_parts)
+    × (ends_hart event ≡ is_finished new.phase)
+    × ((events : List Placed) → before events → now (events ++ record { place = place; event = event } ∷ []))
+    × AllByRecursion KeepsRanges event.lines
+IsTurn turned.Finished old new before now = (old.phase ≡ tasks.Finished) × (new ≡ old) × ((events : List Placed) → before events → now events)
 
--- The register, which is untouched, is fixed: its line stands behind the others.
-pub record FixesSource (register : ℕ) (old new : TaskSeen) : Type 0 where
-  pub untouched : old.present register ≡ None
-  pub first : old.initial register ≡ None
-  pub value : ℕ
-  pub drawn : value ≡ word_of old.draws.seed old.draws.stream old.draws.drawn
-  pub small : value < 2 ^ 64
-  pub task : new ≡ record old {
-    hart = with_register old.hart register value;
-    draws = record { seed = old.draws.seed; stream = old.draws.stream; drawn = old.draws.drawn + 1 };
-    initial = updated old.initial register (Some value);
-    present = updated old.present register (Some value);
-    log = record { lines = old.log.lines ++ fixed old.hart.number register value ∷ []; ends = old.log.ends };
-  }
+-- ---- what its kinds of events do to the task
 
--- the register gets a value, if it has none
-abbrev pub ReadsSource : ℕ → TaskSeen → TaskSeen → Type 0
-ReadsSource register old new = (IsSome (old.present register) × (new ≡ old)) ⊎ FixesSource register old new
+-- what a word reads of the untouched registers gets the next drawn values
+abbrev pub late_of : TaskSeen → Decoded → List Fixing
+late_of t d = late_registers t.draws (filter (λ r. is_none (t.log.present r)) (sources d))
 
--- The hart steps a word that stands at its pc: its effect, and the task after it.
-pub record StepsWord (old new : TaskSeen) (e : Effect) : Type 0 where
-  pub small : effect_word e < 2 ^ 32
-  pub in_it : IsTrue (in_ram old.hart.pc 4)
-  pub steps : step (word_seen old.hart.pc (effect_word e)) old.hart ≡ Some (record { effect = e; hart = new.hart })
-  pub plain : e ≡ plain_effect old.hart (effect_word e) e.rd
-  pub mode : new.hart.mode ≡ old.hart.mode
-  pub present : new.present ≡ with_write old.present e.rd
-  pub initial : new.initial ≡ old.initial
-  pub draws : new.draws ≡ old.draws
+abbrev pub late_one : TaskSeen → ℕ → List Fixing
+late_one t register = late_registers t.draws (filter (λ r. is_none (t.log.present r)) (register ∷ []))
 
--- the request makes its word, and is done
-pub record MakesStep (r : Request) (old new : TaskSeen) : Type 0 where
+-- the lines of a step that ends a request, or the hart
+abbrev pub ended_lines : ℕ → Option ℕ → Effect → List Line
+ended_lines h (Some k) e = step_line is_made e ∷ done h k ∷ []
+ended_lines h None e = step_line is_last e ∷ []
+
+abbrev pub task_event : ℕ → List Line → Event
+task_event h lines = record { hart = h; parts = no_parts; asked = nothing_asked; lines = lines }
+
+-- the log with an event more
+abbrev pub with_event : LogSeen → ℕ → Event → LogSeen
+with_event log place event = record log { events = log.events ++ record { place = place; event = event } ∷ [] }
+
+-- the next request begins, whose word this is
+abbrev pub begun_task : TaskSeen → ℕ → ℕ → List Line → TaskSeen
+begun_task t word place lines = record t {
+  phase = tasks.Making (record { k = t.begun; word = word });
+  begun = t.begun + 1;
+  log = with_event t.log place (task_event t.hart.number lines);
+}
+
+-- what is read of the untouched is fixed: the hart, and the log
+abbrev pub fixed_task : TaskSeen → List Fixing → TaskSeen
+fixed_task t late = record t {
+  hart = with_registers (fixed_in t.hart.x late) t.hart;
+  draws = skipped t.draws (length late);
+  log = record t.log { initial = fixed_in t.log.initial late; present = fixed_in t.log.present late };
+}
+
+-- the task behind the step of a word
+abbrev pub stepped_task : TaskSeen → ℕ → List Fixing → List Line → ℕ → Effect → Hart → TaskSeen
+stepped_task t word late lines place e hart = record t {
+  hart = hart;
+  draws = skipped t.draws (length late);
+  log = with_event (record t.log {
+    words = t.log.words ++ word ∷ [];
+    initial = fixed_in t.log.initial late;
+    present = with_write (fixed_in t.log.present late) e.rd;
+  }) place (task_event t.hart.number lines);
+}
+
+-- the event took this place in the world
+abbrev pub Commits : ℕ → Event → (List Placed → Type 0) → (List Placed → Type 0) → Type 0
+Commits place event before now = (events : List Placed) → before events → now (events ++ record { place = place; event = event } ∷ [])
+
+-- A word was made and stepped, behind which the request of a number is done, or the hart has ended.
+pub record Steps (word : ℕ) (ends : Option ℕ) (old new : TaskSeen) (place : ℕ) (before now : List Placed → Type 0) : Type 0 where
+  pub d : Decoded
+  pub row : IsRowOf word d
   pub effect : Effect
-  pub word : decoded (effect_word effect) ≡ Some (asked r)
-  pub next : new.hart.pc ≡ behind old.hart.pc
-  pub steps : StepsWord old new effect
-  pub lines : new.log.lines ≡ old.log.lines ++ made effect ∷ done old.hart.number old.done ∷ []
-  pub ends : new.log.ends ≡ old.log.ends ++ length new.log.lines ∷ []
-  pub words : new.words ≡ old.words ++ effect_word effect ∷ []
-  pub number : new.hart.number ≡ old.hart.number
-  pub phase : new.phase ≡ tasks.Between
-  pub count : new.done ≡ old.done + 1
-
--- What its word reads gets values first. All of it is one event.
-pub record MakesWord (r : Request) (old new : TaskSeen) : Type 0 where
-  pub first : TaskSeen
-  pub second : TaskSeen
-  pub reads_rs1 : ReadsSource (asked r).ops.rs1 old first
-  pub reads_rs2 : ReadsSource (asked r).ops.rs2 first second
-  pub makes : MakesStep r second new
-  pub event : AddsEvent old.log new.log (length old.log.ends)
-  pub number : new.hart.number ≡ old.hart.number
-  pub seed : new.draws.seed ≡ old.draws.seed
-  pub count : new.done ≡ old.done + 1
-
--- the hart makes its ending step
-pub record MakesEnd (old new : TaskSeen) : Type 0 where
-  pub effect : Effect
-  pub word : effect.word ≡ Some end_word
-  pub next : new.hart.pc ≡ old.hart.pc
-  pub steps : StepsWord old new effect
-  pub lines : new.log.lines ≡ old.log.lines ++ ending effect ∷ []
-  pub ends : new.log.ends ≡ old.log.ends ++ length new.log.lines ∷ []
-  pub words : new.words ≡ old.words ++ effect_word effect ∷ []
-  pub number : new.hart.number ≡ old.hart.number
-  pub phase : new.phase ≡ tasks.Finished
-  pub count : new.done ≡ old.done
+  pub does : step (word_seen old.hart.pc word) (fixed_task old (late_of old d)).hart ≡ Some (record { effect = effect; hart = new.hart })
+  pub lines : List Line
+  pub lines_are : lines ≡ fixing_lines old.hart.number (late_of old d) ++ ended_lines old.hart.number ends effect
+  pub task : new ≡ stepped_task old word (late_of old d) lines place effect new.hart
+  pub ranged : AllByRecursion KeepsRanges lines
+  pub commits : Commits place (task_event old.hart.number lines) before now

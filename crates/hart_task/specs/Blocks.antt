@@ -1,0 +1,120 @@
+-- What a reader wants to know of a hart's lines: each request has one block, in the template's order. It is done, and then the
+-- block meets it, or it is refused, and then the cause holds.
+use Rattle.std.specs.Prelude.{ℕ, ◌≡◌, ◌+◌, ◌<◌, List, [], ◌∷◌, ◌++◌, length, Option, Some, None, IfSome}
+use Rattle.std.specs.List.{AllByRecursion, filter_map}
+use Rattle.rv_fields.specs.declared.row_table.Ins.{Ins}
+use Rattle.rv_fields.specs.Attempt.{◌>>=◌}
+use Rattle.rv_fields.specs.Decode.{Decoded, decoded}
+use Rattle.rv_fields.specs.Effect.{Effect}
+use Rattle.region_plan.specs.Plan.{Work}
+use Rattle.region_plan.specs.Request.{InsChoice, Pins, Plain, Request, a_csr, a_jump, a_loop, a_mem, a_pick, a_plain, a_set, a_sys, a_value, an_ins, by_tree, named_ins}
+use Rattle.region_plan.specs.Script.{ScriptItem, cost}
+use Rattle.trace_text.specs.declared.line.Cause.{Cause}
+use Rattle.trace_text.specs.declared.line.Cause.TheVariants.{EmptyChoice, BudgetSpent, NoRegister, NoAddress, NoTarget, WindowFull, NoFreePage, NoPlace}
+use Rattle.trace_text.specs.Lines.{Line, request, picked, weighed, fixed, given, settled, touched, made, found, ending, done, refused, effects_of}
+use Rattle.boot_words.specs.Layout.{window_words}
+use Rattle.hart_task.specs.Acts.{request_kind}
+use Rattle.hart_task.specs.Turn.{end_word}
+
+-- ---- done
+
+-- the word is the instruction, and each pin holds
+pub record IsPinned (wanted : Ins) (pins : Pins) (d : Decoded) : Type 0 where
+  pub ins : d.ins ≡ wanted
+  pub rd : IfSome pins.rd (λ r. d.ops.rd ≡ r)
+  pub rs1 : IfSome pins.rs1 (λ r. d.ops.rs1 ≡ r)
+  pub rs2 : IfSome pins.rs2 (λ r. d.ops.rs2 ≡ r)
+  pub imm : IfSome pins.imm (λ i. d.ops.imm ≡ i)
+
+-- one step of the instruction that is named, without a trap
+pub record IsStepOf (ins : Ins) (pins : Pins) (effects : List Effect) : Type 0 where
+  pub effect : Effect
+  pub alone : effects ≡ effect ∷ []
+  pub no_trap : effect.trap ≡ None
+  pub d : Decoded
+  pub word : (effect.word >>= decoded) ≡ Some d
+  pub pinned : IsPinned ins pins d
+
+abbrev pub MeetsIns : InsChoice → Pins → List Effect → Type 0
+MeetsIns (named_ins ins) pins effects = IsStepOf ins pins effects
+MeetsIns (by_tree tree) pins effects = ⊥
+
+-- The steps of a block are what its request asks for. No job asks for the others yet.
+abbrev pub MeetsPlain : Plain → List Effect → Type 0
+MeetsPlain (an_ins ins pins) effects = MeetsIns ins pins effects
+MeetsPlain (a_mem r) effects = ⊥
+MeetsPlain (a_jump r) effects = ⊥
+MeetsPlain (a_csr csr ins pins) effects = ⊥
+MeetsPlain (a_sys sys) effects = ⊥
+MeetsPlain (a_value value pins) effects = ⊥
+
+abbrev pub Meets : Request → List Effect → Type 0
+Meets (a_plain p) effects = MeetsPlain p effects
+Meets (a_loop times counter body) effects = ⊥
+Meets (a_set tree path weight) effects = ⊥
+Meets (a_pick tree) effects = ⊥
+
+-- ---- refused
+
+-- the words that lines make
+abbrev pub made_by : Line → Option Effect
+made_by (request hart k kind) = None
+made_by (picked hart tree leaf word) = None
+made_by (weighed hart tree path weight) = None
+made_by (fixed hart register value) = None
+made_by (given hart object page frame) = None
+made_by (settled hart space entry) = None
+made_by (touched hart at bytes) = None
+made_by (made e) = Some e
+made_by (found e) = None
+made_by (ending e) = Some e
+made_by (done hart k) = None
+made_by (refused hart k cause preamble) = None
+
+-- Behind these lines of its hart a request has the cause: the hart has no budget for its cost and the ending step, or its window
+-- no room for its word and the ending one. No request that a job can ask for has another cause yet.
+abbrev pub HasCause : Work → ℕ → List Line → Request → Cause → Type 0
+HasCause work h before r EmptyChoice = ⊥
+HasCause work h before r BudgetSpent = work.budget < length (effects_of before) + cost r + 1
+HasCause work h before r NoRegister = ⊥
+HasCause work h before r NoAddress = ⊥
+HasCause work h before r NoTarget = ⊥
+HasCause work h before r WindowFull = window_words work h < length (filter_map made_by before) + 2
+HasCause work h before r NoFreePage = ⊥
+HasCause work h before r NoPlace = ⊥
+
+-- ---- blocks
+
+-- a line within a block tells neither that a request begins nor that one ends
+abbrev pub IsInner : Line → Type 0
+IsInner (request hart k kind) = ⊥
+IsInner (picked hart tree leaf word) = Unit {0}
+IsInner (weighed hart tree path weight) = Unit {0}
+IsInner (fixed hart register value) = Unit {0}
+IsInner (given hart object page frame) = Unit {0}
+IsInner (settled hart space entry) = Unit {0}
+IsInner (touched hart at bytes) = Unit {0}
+IsInner (made e) = Unit {0}
+IsInner (found e) = Unit {0}
+IsInner (ending e) = ⊥
+IsInner (done hart k) = ⊥
+IsInner (refused hart k cause preamble) = ⊥
+
+-- how a block of the request of number k ends
+pub data Ended (work : Work) (h k : ℕ) (r : Request) (before inner : List Line) (last : Line) : Type 0 where
+  is_met : last ≡ done h k → Meets r (effects_of inner) → Ended work h k r before inner last
+  is_refused : (cause : Cause) (preamble : ℕ) → last ≡ refused h k cause preamble → HasCause work h before r cause → Ended work h k r before inner last
+
+pub record IsBlock (work : Work) (h k : ℕ) (r : Request) (before block : List Line) : Type 0 where
+  pub inner : List Line
+  pub last : Line
+  pub are_inner : AllByRecursion IsInner inner
+  pub lines : block ≡ request h k (request_kind r) ∷ inner ++ last ∷ []
+  pub ended : Ended work h k r before inner last
+
+-- A hart's lines from its request of number k on, behind those before: a block for each request that is left, and then the ending
+-- step, which reads no register.
+abbrev pub AreBlocks : Work → ℕ → ℕ → List ScriptItem → List Line → List Line → Type 0
+AreBlocks work h k [] before lines = (e : Effect) × (e.word ≡ Some end_word) × (lines ≡ ending e ∷ [])
+AreBlocks work h k (item ∷ items) before lines = (block rest : List Line) × IsBlock work h k item.request before block
+    × (lines ≡ block ++ rest) × AreBlocks work h (k + 1) items (before ++ block) rest
