@@ -7,7 +7,7 @@ mod stepping;
 mod task;
 
 pub use log::{HartLog, Turned};
-pub use task::{HartTask, Phase};
+pub use task::{HartTask, Making, Phase};
 
 #[cfg(test)]
 mod tests;

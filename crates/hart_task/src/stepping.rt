@@ -1,15 +1,17 @@
 ghost use Rattle.std.specs.Prelude.{◌≡◌, ◌<◌, IsTrue, IfSome, Some, slice_index};
-ghost use Rattle.rv_fields.specs.Decode.{decoded};
 ghost use Rattle.rv_fields.specs.Memory.{in_ram};
 ghost use Rattle.rv_fields.specs.Step.{step};
-ghost use Rattle.region_plan.specs.Rules.{IsMakeable};
+ghost use Rattle.region_plan.specs.Rules.{IsMakeableRequest};
+ghost use Rattle.region_plan.specs.Views.{request_seen};
+ghost use Rattle.trace_text.specs.Traces.{IsStep};
 ghost use Rattle.trace_text.specs.Views.{effect_seen};
 ghost use Rattle.rv_step.specs.Views.{hart_seen};
+ghost use Rattle.hart_task.specs.Asking.{ins_of, ops_of, word_asked};
 ghost use Rattle.hart_task.specs.Bus.{word_seen};
-ghost use Rattle.hart_task.specs.Machine.{StepsPlainly, asked};
+ghost use Rattle.hart_task.specs.Plain.{StepsPlainly};
 
 use crate::bus::OneWord;
-use region_plan::Request;
+use region_plan::{InsChoice, Request};
 use rv_encode::encode;
 use rv_fields::{Ins, Ops};
 use rv_step::{Hart, step};
@@ -17,30 +19,31 @@ use trace_text::{StepLine, TrailText};
 
 /// The instruction that the request asks for.
 fn ins_of(request: Request) -> Ins
-    ensures { result ≡ (asked request).ins }
+    ensures { result ≡ ins_of request }
 {
     let Request::Ins { ins, .. } = request;
+    let InsChoice::Named(ins) = ins;
     ins
 }
 
-/// The operands that the request gives.
-pub fn ops_of(request: Request) -> Ops
-    ensures { result ≡ (asked request).ops }
+/// The operands that it pins; the others are 0.
+fn ops_of(request: Request) -> Ops
+    ensures { result ≡ ops_of request }
 {
     let Request::Ins { pins, .. } = request;
     Ops {
-        rd: pins.rd,
-        rs1: pins.rs1,
-        rs2: pins.rs2,
-        imm: pins.imm,
+        rd: pins.rd.unwrap_or(0),
+        rs1: pins.rs1.unwrap_or(0),
+        rs2: pins.rs2.unwrap_or(0),
+        imm: pins.imm.unwrap_or(0),
         aqrl: 0,
     }
 }
 
 /// The word that the request makes.
 pub fn word_of(request: Request) -> u32
-    requires { IsMakeable request }
-    ensures { decoded result ≡ Some (asked request) }
+    requires { IsMakeableRequest (request_seen request) }
+    ensures { result ≡ word_asked request }
 {
     encode(ins_of(request), &ops_of(request)).unwrap()
 }
@@ -52,6 +55,7 @@ pub fn step_word(hart: &mut Hart, word: u32) -> StepLine
     requires plain { StepsPlainly (hart_seen hart.old) word }
     ensures step { step (word_seen hart.old.pc word) (hart_seen hart.old)
         ≡ Some (record { effect = effect_seen result; hart = hart_seen hart.new }) }
+    ensures ranges { IsStep (effect_seen result) }
     ensures register { IfSome result.rd (λ w. (0 < w.0) × (w.0 < 32)) }
     ensures zero { slice_index hart.new.x 0 ≡ 0 }
 {

@@ -1,30 +1,54 @@
-ghost use Rattle.std.specs.Prelude.{◌≡◌, ℕ, ◌+◌, ◌%◌, ◌<◌, ◌≤◌, ◌↔◌, length, IsTrue, IfOk, OnOk, OnErr, Ok, Some, slice_get, slice_index};
+ghost use Rattle.std.specs.Prelude.{◌≡◌, ℕ, ◌+◌, ◌*◌, ◌++◌, ◌<◌, ◌≤◌, ◌↔◌, [], ◌∷◌, length, List, IsTrue, IfOk, IfSome, OnErr, Ok, Option, Some, None, option_map, slice_get, slice_index};
+ghost use Rattle.rv_fields.specs.Decode.{Decoded};
 ghost use Rattle.rv_fields.specs.Memory.{in_ram};
-ghost use Rattle.region_plan.specs.Rules.{IsMakeable, KeepsRules};
-ghost use Rattle.region_plan.specs.Work.{Work, work_of, hart_count, template_of};
-ghost use Rattle.hart_task.specs.Answering.{kind_of, stream_of};
+ghost use Rattle.region_plan.specs.Plan.{Work, hart_count, plan_of};
+ghost use Rattle.region_plan.specs.Request.{no_arms};
+ghost use Rattle.region_plan.specs.Rules.{IsMakeableRequest, KeepsRules};
+ghost use Rattle.region_plan.specs.Views.{request_seen, work_of};
+ghost use Rattle.std.specs.List.{AllByRecursion};
+ghost use Rattle.trace_text.specs.Lines as told;
+ghost use Rattle.trace_text.specs.Traces.{IsStep, KeepsRanges};
+ghost use Rattle.world_face.specs.Events.{no_parts};
+ghost use Rattle.hart_task.specs.Acts.{request_kind};
+ghost use Rattle.hart_task.specs.Asking.{item_seen};
+ghost use Rattle.trace_text.specs.Views.{effect_seen};
+ghost use Rattle.world_face.specs.Views.{event_seen};
+ghost use Rattle.world_face.specs.Views as room;
+ghost use Rattle.hart_task.specs.Task.{ended_lines};
 
 use crate::log::{HartLog, Turned};
-use crate::stepping::{ops_of, step_word, word_of};
+use crate::stepping::{step_word, word_of};
 use boot_words::{code_start, start_csrs};
 use choice_tree::DrawWords;
-use region_plan::{Job, Request};
-use rv_fields::{Mode, NoMemory, Ops};
+use region_plan::{Item, Job, Request};
+use rv_fields::{Mode, NoMemory};
 use rv_step::Hart;
+use rv_table::decode;
 use std::alloc::Global;
-use trace_text::{Kind, Line};
+use trace_text::{Kind, Line, StepLine};
 use value_file::ValueFile;
+use world_face::{Event, Placed, World};
 
 /// The word at which a hart ends: `jal x0,0`.
 const END_WORD: u32 = 0x0000_006f;
 
-/// How far a hart is with its request.
+/// The most lines of a step: two registers that get their values, the step, and the end of its request.
+const MOST_LINES: usize = 4;
+
+/// A request that has begun, and makes its word next.
+#[derive(Clone, Copy, Debug, PartialEq, Eq)]
+pub struct Making {
+    /// The number of the request.
+    pub k: u32,
+    pub word: u32,
+}
+
+/// How far a hart is with its requests.
 #[derive(Clone, Copy, Debug, PartialEq, Eq)]
 pub enum Phase {
     /// No request is under way.
     Between,
-    /// The request has begun, and makes its word next.
-    Begun(Request),
+    Making(Making),
     /// The ending step was made.
     Finished,
 }
@@ -34,24 +58,27 @@ pub enum Phase {
 pub struct HartTask {
     hart: Hart,
     phase: Phase,
-    /// The number of requests that are done.
-    done: u32,
+    /// The number of requests that have begun.
+    begun: u32,
     /// The words from which it draws all but its picks.
     draws: DrawWords,
     log: HartLog,
 }
 
 impl HartTask {
-    ghost use Rattle.hart_task.specs.declared.log.Turned.TheVariants.{Event, Finished};
-    ghost use Rattle.hart_task.specs.Task.{IsTaskOf, IsLogOf, IsTurn, log_seen, task_seen, ReadsSource, BeginsRequest, MakesWord, MakesEnd, events_left};
-    ghost use Rattle.hart_task.specs.Room.{HasRoom};
-    ghost use Rattle.value_file.specs.Values.{present_of};
+    ghost use Rattle.hart_task.specs.Acts.{Fixing, fixing_lines};
+    ghost use Rattle.hart_task.specs.Asking.{word_asked};
+    ghost use Rattle.hart_task.specs.Log.{HasRoom, HasRoomForEvent, log_seen};
+    ghost use Rattle.hart_task.specs.Plain.{IsPlainFor};
+    ghost use Rattle.hart_task.specs.Task.{Commits, IsLogOf, IsRowOf, IsTaskOf, IsTurn, Steps, begun_task, events_left, fixed_task, late_of, late_one, script, task_event, task_seen, with_event};
+    ghost use Rattle.rv_step.specs.Views.{hart_seen};
 
     /// A hart before its first event, at the start of its code window.
     pub fn new(alloc: Global, hart: u8, seed: u64) -> HartTask
-        ensures task { (work : Work) → hart < hart_count work → IsTaskOf work result }
+        ensures task { (work : Work) → KeepsRules work → hart < hart_count work → IsTaskOf work result }
         ensures number { result.hart.number ≡ hart }
         ensures seed { result.draws.seed ≡ seed }
+        ensures empty { (log_seen result.log).events ≡ [] }
     {
         HartTask {
             hart: Hart {
@@ -63,11 +90,10 @@ impl HartTask {
                 reserved: None,
             },
             phase: Phase::Between,
-            done: 0,
+            begun: 0,
             draws: DrawWords::new(seed, stream_of(hart)),
             log: HartLog {
-                lines: Vec::new(alloc),
-                ends: Vec::new(alloc),
+                events: Vec::new(alloc),
                 words: Vec::new(alloc),
                 values: ValueFile::new(),
             },
@@ -75,25 +101,35 @@ impl HartTask {
     }
 
     /// Takes one turn at the template: a request begins, or its word is made and it is done, or the hart ends. The
-    /// job is the one of every turn.
-    pub fn turn(&mut self, job: &Job) -> Result<Turned, NoMemory>
+    /// job is the one of every turn. What it takes of memory it takes before it changes anything.
+    pub fn turn<W: World>(
+        &mut self,
+        alloc: Global,
+        job: &Job,
+        world: &mut W,
+    ) -> Result<Turned, NoMemory>
         requires rules { KeepsRules (work_of job.now) }
         requires task { IsTaskOf (work_of job.now) self.old }
+        requires room { 0 < W.room world.old }
         ensures task { IsTaskOf (work_of job.now) self.new }
         ensures number { self.new.hart.number ≡ self.old.hart.number }
         ensures seed { self.new.draws.seed ≡ self.old.draws.seed }
-        ensures turn { IfOk result (λ turned. IsTurn turned self.old self.new) }
-        ensures nearer { (place : ℕ) → result ≡ Ok (Event place) → events_left (work_of job.now) self.new < events_left (work_of job.now) self.old }
+        ensures turn { IfOk result (λ turned. IsTurn turned (task_seen self.old) (task_seen self.new) (W.stands world.old) (W.stands world.new)) }
+        ensures nearer { (place : ℕ) → result ≡ Ok (Turned.Event place)
+            → events_left (work_of job.now) (task_seen self.new) < events_left (work_of job.now) (task_seen self.old) }
+        ensures room { (place : ℕ) → result ≡ Ok (Turned.Event place) → W.room world.new + 1 ≡ W.room world.old }
         ensures unchanged { OnErr result (task_seen self.new ≡ task_seen self.old) }
+        ensures quiet { OnErr result (world.new ≡ world.old) }
     {
-        match self.phase {
+        let place = match self.phase {
             Phase::Between => match self.next_request(job) {
-                Some(request) => self.begin(request),
-                None => self.end(),
+                Some(request) => self.begin(alloc, request, world)?,
+                None => self.end(alloc, world)?,
             },
-            Phase::Begun(request) => self.make(request),
-            Phase::Finished => Ok(Turned::Finished),
-        }
+            Phase::Making(making) => self.make(alloc, making, world)?,
+            Phase::Finished => return Ok(Turned::Finished),
+        };
+        Ok(Turned::Event { place })
     }
 
     /// Whether the hart has made its ending step.
@@ -107,110 +143,225 @@ impl HartTask {
     pub fn into_log(self) -> HartLog
         requires { self.phase ≡ Phase.Finished }
         ensures log { log_seen result ≡ log_seen self.log }
-        ensures run { (work : Work) → KeepsRules work → IsTaskOf work self → IsLogOf work self.draws.seed self.hart.number result }
+        ensures run { (work : Work) → KeepsRules work → IsTaskOf work self → IsLogOf work self.draws.seed self.hart.number (log_seen result) }
     {
         self.log
     }
 
-    /// The first request that isn't done.
+    /// The first request that hasn't begun.
     fn next_request(&self, job: &Job) -> Option<Request>
         requires { self.now.hart.number < hart_count (work_of job.now) }
-        ensures { result ≡ slice_get (template_of (work_of job.now) self.now.hart.number) self.now.done }
+        ensures { slice_get (script (work_of job.now) self.now.hart.number) self.now.begun
+            ≡ option_map (λ r. record { request = request_seen r; arms = no_arms }) result }
     {
-        job.template(self.hart.number)
-            .get(self.done as usize)
-            .copied()
+        let item = job.template(self.hart.number).get(self.begun as usize)?;
+        Some(request_in(item))
     }
 
-    fn begin(&mut self, request: Request) -> Result<Turned, NoMemory>
-        ensures begins { OnOk result (BeginsRequest request (task_seen self.old) (task_seen self.new)) }
-        ensures place { IfOk result (λ t. t ≡ Event (length self.old.log.ends.items)) }
+    /// The request begins.
+    fn begin<W: World>(
+        &mut self,
+        alloc: Global,
+        request: Request,
+        world: &mut W,
+    ) -> Result<u64, NoMemory>
+        requires makeable { IsMakeableRequest (request_seen request) }
+        requires room { 0 < W.room world.old }
+        requires count { self.old.begun < 1000 }
+        ensures task { IfOk result (λ place. task_seen self.new
+            ≡ begun_task (task_seen self.old) (word_asked request) place (told.request self.old.hart.number self.old.begun Kind.Ins ∷ [])) }
+        ensures commits { IfOk result (λ place. Commits place (task_event self.old.hart.number (told.request self.old.hart.number self.old.begun Kind.Ins ∷ []))
+            (W.stands world.old) (W.stands world.new)) }
+        ensures ranges { KeepsRanges (told.request self.old.hart.number self.old.begun Kind.Ins) }
+        ensures room { IfOk result (λ place. W.room world.new + 1 ≡ W.room world.old) }
         ensures unchanged { OnErr result (task_seen self.new ≡ task_seen self.old) }
+        ensures quiet { OnErr result (world.new ≡ world.old) }
     {
         self.log.reserve()?;
-        let place = self.log.add_line(Line::Q {
+        let mut event = Event::new(alloc, self.hart.number, 1)?;
+        event.add(Line::Q {
             hart: self.hart.number,
-            k: self.done,
+            k: self.begun,
             kind: kind_of(request),
         });
-        self.phase = Phase::Begun(request);
-        Ok(Turned::Event { place })
+        let place = self.commit(event, world);
+        self.phase = Phase::Making(Making {
+            k: self.begun,
+            word: word_of(request),
+        });
+        self.begun += 1;
+        Ok(place)
     }
 
-    fn make(&mut self, request: Request) -> Result<Turned, NoMemory>
-        requires makeable { IsMakeable request }
+    /// The request under way makes its word, and is done.
+    fn make<W: World>(
+        &mut self,
+        alloc: Global,
+        making: Making,
+        world: &mut W,
+    ) -> Result<u64, NoMemory>
+        requires row { (d : Decoded) × IsRowOf making.word d }
+        requires plain { IsPlainFor (hart_seen self.old.hart) making.word }
         requires zero { slice_index self.old.hart.x 0 ≡ 0 }
-        requires mode { self.old.hart.mode ≡ Mode.M }
         requires in_ram { IsTrue (in_ram self.old.hart.pc 4) }
-        requires count { self.old.done < 1000 }
-        requires few { self.old.draws.drawn ≤ length self.old.log.lines.items }
-        ensures makes { OnOk result (MakesWord request (task_seen self.old) (task_seen self.new)) }
-        ensures place { IfOk result (λ t. t ≡ Event (length self.old.log.ends.items)) }
+        requires few { self.old.draws.drawn ≤ 2002 }
+        requires room { 0 < W.room world.old }
+        ensures steps { IfOk result (λ place. Steps making.word (Some making.k) (task_seen self.old) (record (task_seen self.new) { phase = self.old.phase }) place (W.stands world.old) (W.stands world.new)) }
+        ensures phase { IfOk result (λ place. self.new.phase ≡ Phase.Between) }
+        ensures room { IfOk result (λ place. W.room world.new + 1 ≡ W.room world.old) }
         ensures unchanged { OnErr result (task_seen self.new ≡ task_seen self.old) }
+        ensures quiet { OnErr result (world.new ≡ world.old) }
+    {
+        let place = self.step(alloc, making.word, Some(making.k), world)?;
+        self.phase = Phase::Between;
+        Ok(place)
+    }
+
+    /// The hart makes its ending step.
+    fn end<W: World>(&mut self, alloc: Global, world: &mut W) -> Result<u64, NoMemory>
+        requires plain { IsPlainFor (hart_seen self.old.hart) 0x6f }
+        requires zero { slice_index self.old.hart.x 0 ≡ 0 }
+        requires in_ram { IsTrue (in_ram self.old.hart.pc 4) }
+        requires few { self.old.draws.drawn ≤ 2002 }
+        requires room { 0 < W.room world.old }
+        ensures steps { IfOk result (λ place. Steps 0x6f None (task_seen self.old) (record (task_seen self.new) { phase = self.old.phase }) place (W.stands world.old) (W.stands world.new)) }
+        ensures phase { IfOk result (λ place. self.new.phase ≡ Phase.Finished) }
+        ensures room { IfOk result (λ place. W.room world.new + 1 ≡ W.room world.old) }
+        ensures unchanged { OnErr result (task_seen self.new ≡ task_seen self.old) }
+        ensures quiet { OnErr result (world.new ≡ world.old) }
+    {
+        let place = self.step(alloc, END_WORD, None, world)?;
+        self.phase = Phase::Finished;
+        Ok(place)
+    }
+
+    /// Makes the word at pc and steps it; what it reads of the untouched registers gets values first. The request of
+    /// the number is done then, or, where there is none, the hart has ended.
+    fn step<W: World>(
+        &mut self,
+        alloc: Global,
+        word: u32,
+        done: Option<u32>,
+        world: &mut W,
+    ) -> Result<u64, NoMemory>
+        requires row { (d : Decoded) × IsRowOf word d }
+        requires plain { IsPlainFor (hart_seen self.old.hart) word }
+        requires zero { slice_index self.old.hart.x 0 ≡ 0 }
+        requires in_ram { IsTrue (in_ram self.old.hart.pc 4) }
+        requires few { self.old.draws.drawn ≤ 2002 }
+        requires room { 0 < W.room world.old }
+        ensures steps { IfOk result (λ place. Steps word done (task_seen self.old) (task_seen self.new) place (W.stands world.old) (W.stands world.new)) }
+        ensures room { IfOk result (λ place. W.room world.new + 1 ≡ W.room world.old) }
+        ensures unchanged { OnErr result (task_seen self.new ≡ task_seen self.old) }
+        ensures quiet { OnErr result (world.new ≡ world.old) }
     {
         self.log.reserve()?;
-        let word = word_of(request);
-        let Ops { rs1, rs2, .. } = ops_of(request);
-        self.read_source(rs1);
-        self.read_source(rs2);
+        let mut event = Event::new(alloc, self.hart.number, MOST_LINES)?;
+        self.fix_sources(word, &mut event);
         let step = step_word(&mut self.hart, word);
         self.log.write(step.rd);
-        let done = Line::D {
-            hart: self.hart.number,
-            k: self.done,
-        };
-        let place = self.log.add_step(Line::S(step), Some(done), word);
-        self.phase = Phase::Between;
-        self.done += 1;
-        Ok(Turned::Event { place })
+        self.log.add_word(word);
+        tell_step(&mut event, step, done);
+        Ok(self.commit(event, world))
     }
 
-    /// Gives the register a starting value, if it is untouched: the next word of the hart's stream.
-    fn read_source(&mut self, register: u8)
+    /// Gives the untouched registers that the word reads their starting values.
+    fn fix_sources(&mut self, word: u32, event: &mut Event)
+        requires row { (d : Decoded) × IsRowOf word d }
+        requires room { room.HasRoom 4 event.old }
+        requires few { self.old.draws.drawn ≤ 2002 }
+        ensures task { (d : Decoded) → IsRowOf word d → task_seen self.new ≡ fixed_task (task_seen self.old) (late_of (task_seen self.old) d) }
+        ensures event { (d : Decoded) → IsRowOf word d → event_seen event.new
+            ≡ record (event_seen event.old) { lines = (event_seen event.old).lines ++ fixing_lines self.old.hart.number (late_of (task_seen self.old) d) } }
+        ensures ranges { (d : Decoded) → IsRowOf word d → AllByRecursion KeepsRanges (fixing_lines self.old.hart.number (late_of (task_seen self.old) d)) }
+        ensures log { HasRoom self.old.log → HasRoom self.new.log }
+        ensures room { room.HasRoom 2 event.new }
+        ensures zero { slice_index self.old.hart.x 0 ≡ 0 → slice_index self.new.hart.x 0 ≡ 0 }
+    {
+        let (_, ops) = decode(word).unwrap();
+        self.fix_source(ops.rs1, event);
+        self.fix_source(ops.rs2, event);
+    }
+
+    /// Gives the register its starting value, if it is untouched: the next word of the hart's stream.
+    fn fix_source(&mut self, register: u8, event: &mut Event)
         requires register { register < 32 }
-        requires room { HasRoom 1 self.old.log }
-        requires few { self.old.draws.drawn ≤ length self.old.log.lines.items }
-        ensures reads { ReadsSource register (task_seen self.old) (task_seen self.new) }
-        ensures room { (count : ℕ) → HasRoom (count + 1) self.old.log → HasRoom count self.new.log }
-        ensures few { self.new.draws.drawn ≤ length self.new.log.lines.items }
-        ensures zero { present_of self.old.log.values 0 ≡ Some 0 → slice_index self.old.hart.x 0 ≡ 0 → slice_index self.new.hart.x 0 ≡ 0 }
+        requires room { room.HasRoom 1 event.old }
+        requires few { self.old.draws.drawn ≤ 2003 }
+        ensures task { task_seen self.new ≡ fixed_task (task_seen self.old) (late_one (task_seen self.old) register) }
+        ensures event { event_seen event.new
+            ≡ record (event_seen event.old) { lines = (event_seen event.old).lines ++ fixing_lines self.old.hart.number (late_one (task_seen self.old) register) } }
+        ensures ranges { AllByRecursion KeepsRanges (fixing_lines self.old.hart.number (late_one (task_seen self.old) register)) }
+        ensures log { HasRoom self.old.log → HasRoom self.new.log }
+        ensures room { (count : ℕ) → room.HasRoom (count + 1) event.old → room.HasRoom count event.new }
+        ensures zero { slice_index self.old.hart.x 0 ≡ 0 → slice_index self.new.hart.x 0 ≡ 0 }
     {
         if self.log.values.touched(register) {
             return;
         }
+        let hart = self.hart.number;
         let value = self.draws.next();
         self.hart.x[register as usize] = value;
-        self.log.fix(self.hart.number, register, value);
+        self.log.values.fix(register, value);
+        event.add(Line::X {
+            hart,
+            reg: u32::from(register),
+            value,
+        });
     }
 
-    fn end(&mut self) -> Result<Turned, NoMemory>
-        requires zero { slice_index self.old.hart.x 0 ≡ 0 }
-        requires mode { self.old.hart.mode ≡ Mode.M }
-        requires in_ram { IsTrue (in_ram self.old.hart.pc 4) }
-        requires aligned { self.old.hart.pc % 4 ≡ 0 }
-        ensures makes { OnOk result (MakesEnd (task_seen self.old) (task_seen self.new)) }
-        ensures place { IfOk result (λ t. t ≡ Event (length self.old.log.ends.items)) }
-        ensures unchanged { OnErr result (task_seen self.new ≡ task_seen self.old) }
+    /// The event takes place in the world, and stands in the log.
+    fn commit<W: World>(&mut self, event: Event, world: &mut W) -> u64
+        requires log { HasRoomForEvent self.old.log }
+        requires parts { (event_seen event).parts ≡ no_parts }
+        requires room { 0 < W.room world.old }
+        ensures task { task_seen self.new ≡ record (task_seen self.old) { log = with_event (log_seen self.old.log) result (event_seen event) } }
+        ensures commits { Commits result (event_seen event) (W.stands world.old) (W.stands world.new) }
+        ensures room { W.room world.new + 1 ≡ W.room world.old }
     {
-        self.log.reserve()?;
-        let step = step_word(&mut self.hart, END_WORD);
-        self.log.write(step.rd);
-        let place = self.log.add_step(Line::E(step), None, END_WORD);
-        self.phase = Phase::Finished;
-        Ok(Turned::Event { place })
+        let taken = world.take(&event.parts);
+        let place = world.commit(&event, taken);
+        self.log.add_event(Placed { place, event });
+        place
     }
+}
+
+/// The request that the item is.
+fn request_in(item: &Item) -> Request
+    ensures { item_seen item.now ≡ record { request = request_seen result; arms = no_arms } }
+{
+    match item {
+        Item::One(request) => *request,
+    }
+}
+
+/// Tells of a step, behind which the request of the number is done, or, where there is none, the hart has ended.
+fn tell_step(event: &mut Event, step: StepLine, done: Option<u32>)
+    requires { room.HasRoom 2 event.old }
+    ensures ranges { IsStep (effect_seen step) → AllByRecursion KeepsRanges (ended_lines event.old.hart done (effect_seen step)) }
+    ensures event { event_seen event.new ≡ record (event_seen event.old) { lines = (event_seen event.old).lines ++ ended_lines event.old.hart done (effect_seen step) } }
+{
+    let Some(k) = done else {
+        event.add(Line::E(step));
+        return;
+    };
+    event.add(Line::S(step));
+    event.add(Line::D {
+        hart: event.hart,
+        k,
+    });
 }
 
 /// The stream from which a hart draws all but its picks.
 fn stream_of(hart: u8) -> u64
-    ensures { result ≡ stream_of hart }
+    ensures { result ≡ 2 * hart + 1 }
 {
     2 * u64::from(hart) + 1
 }
 
 /// The key that leads the request's item.
 fn kind_of(request: Request) -> Kind
-    ensures { result ≡ kind_of request }
+    ensures { result ≡ request_kind (request_seen request) }
 {
     match request {
         Request::Ins { .. } => Kind::Ins,
