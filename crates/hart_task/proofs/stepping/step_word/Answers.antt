@@ -1,8 +1,8 @@
 -- The bus tells the word at pc, so a step is what the word does; and a plain one is what its line tells.
 use Rattle.std.proofs.Common.{Some, ap, sym, ◌∙◌}
 use Rattle.rv_step.specs.Views.{hart_seen, stepped_seen}
-use Rattle.hart_task.specs.Machine.{plain_effect}
-use Rattle.hart_task.proofs.Retiring.{plain_is, plain_room, plain_told}
+use Rattle.hart_task.specs.Plain.{plain_effect}
+use Rattle.hart_task.proofs.Plainly.{plain_is, plain_room, plain_told}
 use Rattle.hart_task.proofs.stepping.step_word.Goals as goal
 
 pub step-stepped-requires-clause-told : goal.step-stepped-requires-clause-told
