@@ -1,0 +1,11 @@
+pub mod Numbering
+pub mod Ending
+pub mod Turning
+pub mod Finished
+pub mod Following
+pub mod Leading
+pub mod Opening
+pub mod Drawing
+pub mod Leaving
+pub mod Listed
+pub mod Drawn

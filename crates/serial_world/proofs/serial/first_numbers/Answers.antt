@@ -1,0 +1,7 @@
+-- The range holds them.
+use Rattle.std.proofs.Common.{arith, refl}
+use Rattle.std.proofs.lemmas.Iterator.{YieldsList-from_range, items_from_collect}
+use Rattle.serial_world.proofs.serial.first_numbers.Goals as goal
+
+pub returns : goal.returns
+returns c = items_from_collect c.collect.result c.collect.ensures.ran (YieldsList-from_range 0 c.args.count c.args.count refl (omega arith))
