@@ -1,33 +1,23 @@
 -- Whatever stands in memory and registers beside what the lines fix, the harts do what the lines tell: so a value that is
 -- fixed late harms no earlier step.
-use Rattle.std.specs.Prelude.{ℕ, ◌≡◌, ◌<◌, ◌^◌, List, map, Option, Some}
-use Rattle.std.specs.List.{AllByRecursion}
+use Rattle.std.specs.Prelude.{ℕ, ◌≡◌, ◌<◌, List, map, Some, false}
 use Rattle.rv_fields.specs.Effect.{Effect}
-use Rattle.rv_fields.specs.Hart.{Registers}
-use Rattle.rv_fields.specs.Memory.{IsWhole}
 use Rattle.rv_fields.specs.Play.{Machine, Plays}
 use Rattle.ram_image.specs.Pieces.{byte_in}
-use Rattle.region_plan.specs.Work.{Work, hart_count}
-use Rattle.trace_text.specs.Lines.{Line, fixed, effects_of}
+use Rattle.region_plan.specs.Plan.{Work, hart_count}
+use Rattle.trace_text.specs.Lines.{Line, effects_of, starting}
 use Rattle.boot_words.specs.Startup.{IsStart}
 use Rattle.run_merge.specs.Image.{image_pieces}
 
--- where the line fixes a register, it has the line's value
-abbrev pub HasFixed : (ℕ → Registers) → Line → Type 0
-HasFixed registers (fixed hart register value) = registers hart register ≡ Some value
-HasFixed registers line = Unit {0}
-
--- where the line fixes a register, that is the value that is told to be its starting one
-abbrev pub IsStarting : (ℕ → ℕ → Option ℕ) → Line → Type 0
-IsStarting initial (fixed hart register value) = (initial hart register ≡ Some value) × (0 < register) × (register < 32) × (value < 2 ^ 64)
-IsStarting initial line = Unit {0}
-
--- The machine is whole, has each byte that is placed and each register that is fixed, and its harts stand at their start.
+-- The machine's memory is whole and has each byte that is placed, no link stands, and its harts stand at their start, with the
+-- values that are fixed in their registers. Of two values for one byte or one register the first counts, so there are always
+-- such machines.
 pub record Starts (work : Work) (lines : List Line) (machine : Machine) : Type 0 where
-  pub whole : IsWhole machine.seen
+  pub whole : (a : ℕ) → (b : ℕ) × (machine.seen.byte a ≡ Some b) × (b < 256)
+  pub links : (h g : ℕ) → machine.seen.link h g ≡ Some false
   pub memory : (a b : ℕ) → byte_in (image_pieces work lines) a ≡ Some b → machine.seen.byte a ≡ Some b
-  pub registers : AllByRecursion (HasFixed (λ h. (machine.harts h).x)) lines
-  pub harts : (h : ℕ) → h < hart_count work → IsStart h (machine.harts h)
+  pub registers : (h r v : ℕ) → h < hart_count work → starting lines h r ≡ Some v → (machine.harts h).x r ≡ Some v
+  pub harts : (h : ℕ) → h < hart_count work → IsStart work h (machine.harts h)
 
 -- the harts of the steps, in the order of the lines
 abbrev pub order_of : List Effect → List ℕ

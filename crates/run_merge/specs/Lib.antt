@@ -1,6 +1,7 @@
 pub mod Image
-pub mod Answers
 pub mod Justified
-pub mod Whole
 pub mod Order
 pub mod Run
+pub mod Slots
+pub mod Answers
+pub mod FromReset

@@ -7,4 +7,7 @@ mod run;
 mod segments;
 
 pub use merging::merge;
-pub use run::Run;
+pub use run::{HartProgram, Run};
+
+#[cfg(test)]
+mod tests;

@@ -1,7 +1,10 @@
-ghost use Rattle.std.specs.Prelude.{◌≡◌, IfOk, option_map};
+ghost use Rattle.std.specs.Prelude.{◌≡◌, ◌++◌, IfOk, OnOk};
+ghost use Rattle.std.specs.Option.{option_map};
 ghost use Rattle.rv_fields.specs.Effect.{Effect};
 ghost use Rattle.trace_text.specs.Lines.{effect_of, effects_of};
 ghost use Rattle.trace_text.specs.Views.{line_seen, lines_seen};
+ghost use Rattle.run_merge.specs.Justified as justified;
+ghost use Rattle.boot_words.specs.Passing.{boots_from};
 ghost use Rattle.run_merge.specs.Order.{whole_order};
 
 use rv_fields::NoMemory;
@@ -11,18 +14,37 @@ use trace_text::Line;
 /// The number of steps that the boot of a hart takes.
 const BOOT_STEPS: usize = 70;
 
-/// The order in which the one hart steps: its boot, and then the steps of the lines.
-pub fn order_of(alloc: Global, lines: &[Line]) -> Result<Vec<u8>, NoMemory>
-    ensures { IfOk result (λ order. order.items ≡ whole_order 1 (effects_of (lines_seen lines.now))) }
+/// The order in which so many harts step: their boots, one after another, and then the steps of the lines.
+pub fn order_of(alloc: Global, harts: u8, lines: &[Line]) -> Result<Vec<u8>, NoMemory>
+    ensures { IfOk result (λ order. order.items ≡ whole_order harts (effects_of (lines_seen lines.now))) }
 {
-    let mut order = vec![in alloc; 0; BOOT_STEPS]?;
+    let mut order = Vec::new(alloc);
+    add_boots(&mut order, harts)?;
+    add_steps(&mut order, lines)?;
+    Ok(order)
+}
+
+/// Adds the boots of so many harts, in rising order.
+fn add_boots(order: &mut Vec<u8>, harts: u8) -> Result<(), NoMemory>
+    ensures { OnOk result (order.new.items ≡ order.old.items ++ boots_from 0 harts) }
+{
+    for hart in 0..harts {
+        order.resize(order.len() + BOOT_STEPS, hart)?;
+    }
+    Ok(())
+}
+
+/// Adds the harts of the steps that the lines tell.
+fn add_steps(order: &mut Vec<u8>, lines: &[Line]) -> Result<(), NoMemory>
+    ensures { OnOk result (order.new.items ≡ order.old.items ++ justified.order_of (effects_of (lines_seen lines.now))) }
+{
     for line in lines {
         match stepping_hart(line) {
             Some(hart) => order.push(hart)?,
             None => {}
         }
     }
-    Ok(order)
+    Ok(())
 }
 
 /// The hart whose step the line tells.

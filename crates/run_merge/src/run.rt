@@ -1,16 +1,32 @@
 ghost use Rattle.std.specs.Prelude.{◌≡◌, ◌≤◌, length};
+ghost use Rattle.std.specs.List.{All};
+ghost use Rattle.region_plan.specs.Rules.{most_harts};
+ghost use Rattle.run_merge.specs.declared.run.HartProgram.{HartProgram};
 
+use region_plan::Plan;
 use trace_text::Line;
 use value_file::ValueFile;
+
+/// What a hart brings to the program: the words of its window from the first on, and the values that its registers
+/// start with.
+#[derive(Drop)]
+pub struct HartProgram {
+    pub words: Vec<u32>,
+    pub values: ValueFile,
+}
 
 /// What the harts of a job did.
 #[derive(Drop)]
 pub struct Run {
     pub(crate) lines: Vec<Line>,
     pub(crate) order: Vec<u8>,
-    pub(crate) words: Vec<u32>,
-    pub(crate) values: ValueFile,
-    ghost room: { length words.items ≤ 1024 },
+    pub(crate) plan: Plan,
+    pub(crate) harts: Vec<HartProgram>,
+    ghost planned: { length plan.harts.items ≡ length harts.items },
+    ghost some: { 1 ≤ length harts.items },
+    ghost most: { length harts.items ≤ most_harts },
+    // The words of each hart stand in one page.
+    ghost room: { All (λ (hart : HartProgram). length hart.words.items ≤ 1024) harts.items },
 }
 
 impl Run {
@@ -26,5 +42,12 @@ impl Run {
         ensures { result.now ≡ self.now.order.items }
     {
         self.order.as_slice()
+    }
+
+    /// The number of harts, of which there is at least one.
+    pub fn hart_count(&self) -> u8
+        ensures { result ≡ length self.now.harts.items }
+    {
+        self.harts.len() as u8
     }
 }
