@@ -1,283 +1,305 @@
--- What the finished run of the one hart says of its lines.
-use Rattle.std.proofs.Common.{ℕ, ◌+◌, ◌<◌, ◌≤◌, ◌≡◌, Bool, true, false, cond, eqb, List, [], ◌∷◌, ◌++◌, length, Option, Some, None, refl, sym, ap, subst, ◌∙◌, arith, lit≤, eq-eqb, eqb-true, append_assoc, append-nil}
-use Rattle.std.specs.Prelude.{zero, suc, is_none, ◌&&◌}
+-- The logs of all harts, merged by place, are one run of all harts, and their lines are a trace with each hart's blocks.
+use Rattle.std.proofs.Common.{ℕ, ◌+◌, ◌^◌, ◌<◌, ◌≤◌, ◌≡◌, Bool, true, false, cond, eqb, eqb-true, eq-eqb, ◌&&◌, List, [], ◌∷◌, ◌++◌, length, filter, Option, Some, None, refl, sym, ap, subst, ◌∙◌, arith}
+use Rattle.std.specs.Prelude.{slice_get}
 use Rattle.std.specs.List.{AllByRecursion}
 use Rattle.std.specs.Option.{option_or}
-use Rattle.rv_fields.specs.Hart.{Hart, Registers, updated}
-use Rattle.rv_fields.specs.Laws.{TellsMore}
-use Rattle.rv_fields.specs.Step.{with_write}
-use Rattle.ram_image.specs.Pieces.{byte_in, filled, laid}
-use Rattle.ram_image.specs.Segments.{memory_of}
+use Rattle.std.proofs.lemmas.List.Elements.{filter-append}
+use Rattle.std.proofs.lemmas.Option.{slice_get-get_or}
 use Rattle.choice_tree.specs.Forest.{Forest}
-use Rattle.region_plan.specs.declared.request.Request.{Request}
-use Rattle.region_plan.specs.Work.{Work, hart_count}
-use Rattle.trace_text.specs.Lines.{Line, request, fixed, made, ending, done, hart_of, lines_of, fixed_by, starting}
-use Rattle.world_face.specs.Runs.{Runs}
-use Rattle.boot_words.specs.Layout.{code_address}
-use Rattle.boot_words.specs.Startup.{IsStart}
-use Rattle.hart_task.specs.Machine.{HartState, stepped, finished, start, legal, after, with_begun, effect_word, moved}
-use Rattle.run_merge.specs.Image.{startup_pieces, handler_pieces, code_pieces, image, word_bytes}
+use Rattle.region_plan.specs.Plan.{Work, hart_count}
+use Rattle.region_plan.specs.Rules.{KeepsRules}
+use Rattle.table_space.specs.Tables.{opening_space}
+use Rattle.trace_text.specs.Lines.{Line, done, ending, fixed, fixed_by, found, given, hart_of, lines_of, made, picked, refused, request, settled, starting, touched, weighed}
+use Rattle.trace_text.specs.Traces.{IsLine, IsTrace, KeepsRanges}
+use Rattle.world_face.specs.Choices.{choices_after, choices_legal}
+use Rattle.world_face.specs.Events.{Event, Part, a_shard, a_space, holds, is_of_hart, no_parts, the_choices, the_pages}
+use Rattle.world_face.specs.PagesBook.{pages_after, pages_legal}
+use Rattle.world_face.specs.Runs.{StandsFor}
+use Rattle.world_face.specs.Shards.{opening_shard, shard_after, shard_legal}
+use Rattle.world_face.specs.Spaces.{space_after, space_legal}
+use Rattle.hart_task.specs.Blocks.{AreBlocks}
+use Rattle.hart_task.specs.Log.{LogSeen, events_of}
+use Rattle.hart_task.specs.Logs.{AreLogsOf, numbered, of_hart}
+use Rattle.hart_task.specs.OneRun.{IsFinishedRun, OneRun, all_lines}
+use Rattle.hart_task.specs.Task.{script}
+use Rattle.hart_task.proofs.Blocked.{blocked}
+use Rattle.hart_task.proofs.Owned.{IsOwn, told_of_run}
 use Rattle.run_merge.specs.Answers.{Answers}
-use Rattle.run_merge.specs.Justified.{IsStarting, Justified}
-use Rattle.hart_task.specs.Task.{IsFinishedRun}
-use Rattle.hart_task.proofs.Retiring.{number_after, registers_after}
-use Rattle.hart_task.proofs.Standing.{starting_append}
-use Rattle.run_merge.specs.Whole.{OneRun}
-use Rattle.run_merge.proofs.Answered.{answers_of_run, named_start, turned}
-use Rattle.run_merge.proofs.Played.{Over, playing, read_next, Running, Named, AllOver, hart_of_step, number-with_begun}
-use Rattle.run_merge.proofs.Placed.{AreLaid, laid-append, laid_within, byte_behind, memory_joins}
-use Rattle.run_merge.proofs.Imaged.{Coded, coded, tells, Holds}
 
--- ---- the lines are all the hart's
+-- ---- a hart's log
 
-record Own (h : ℕ) (n : ℕ) (lines : List Line) : Type 0 where
-  same : lines_of h lines ≡ lines
-  members : AllByRecursion (λ l. hart_of l < n) lines
+pub log_at : (work : Work) (seed : ℕ) (logs : List LogSeen) (events : List Event) → AreLogsOf work seed logs events → (h : ℕ) → h < hart_count work
+    → (log : LogSeen) × (slice_get logs h ≡ Some log)
+log_at work seed logs events are h small =
+    let within : h < length logs = omega (arith, are.count, small) in
+    (_, slice_get-get_or logs h (record { events = []; words = []; initial = λ r. None; present = λ r. None }) within)
 
-own_line : (h n : ℕ) (l : Line) (ls : List Line) → hart_of l ≡ h → h < n → Own h n ls → Own h n (l ∷ ls)
-own_line h n l ls is small own =
-    let test : eqb (hart_of l) h ≡ true = eq-eqb (hart_of l) h is in
-    record {
-      same = ap (λ b. cond b (l ∷ lines_of h ls) (lines_of h ls)) test ∙ ap (λ t. l ∷ t) own.same;
-      members = (omega (arith, is), own.members);
-    }
+numbered_of : (h place : ℕ) (events : List Event) → events_of (of_hart h (numbered place events)) ≡ filter (is_of_hart h) events
+numbered_of h place [] = refl
+numbered_of h place (e ∷ es) = of (is_of_hart h e) (numbered_of h (place + 1) es)
+  where
+    of : (t : Bool) → events_of (of_hart h (numbered (place + 1) es)) ≡ filter (is_of_hart h) es
+        → events_of (cond t (record { place = place; event = e } ∷ of_hart h (numbered (place + 1) es)) (of_hart h (numbered (place + 1) es))) ≡ cond t (e ∷ filter (is_of_hart h) es) (filter (is_of_hart h) es)
+    of true more = ap (λ l. e ∷ l) more
+    of false more = more
 
-own : (lines : List Line) (s end : HartState) (h n : ℕ) → s.machine.number ≡ h → h < n → Runs legal after s lines end → Own h n lines
-own [] s end h n is small run = record { same = refl; members = tt }
-own (request h' k kind ∷ ls) s end h n is small run =
-    own_line h n (request h' k kind) ls (run.0.0 ∙ is) small (own ls (with_begun s s.left) end h n (number-with_begun s s.left ∙ is) small run.1)
-own (fixed h' register value ∷ ls) s end h n is small run =
-    own_line h n (fixed h' register value) ls (run.0.of_hart ∙ is) small (own ls (after s (fixed h' register value)) end h n is small run.1)
-own (made e ∷ ls) s end h n is small run =
-    own_line h n (made e) ls (hart_of_step s e run.0.1 ∙ is) small (own ls (moved s e stepped) end h n (number_after s (effect_word e) ∙ is) small run.1)
-own (ending e ∷ ls) s end h n is small run =
-    own_line h n (ending e) ls (hart_of_step s e run.0.2 ∙ is) small (own ls (moved s e finished) end h n (number_after s (effect_word e) ∙ is) small run.1)
-own (done h' k ∷ ls) s end h n is small run =
-    own_line h n (done h' k) ls (run.0.0 ∙ is) small (own ls (after s (done h' k)) end h n is small run.1)
-own (other ∷ ls) s end h n is small run = absurd run.0
+-- its events are the hart's among all
+pub log_events : (work : Work) (seed : ℕ) (logs : List LogSeen) (events : List Event) → AreLogsOf work seed logs events → (h : ℕ) (log : LogSeen) → slice_get logs h ≡ Some log
+    → events_of log.events ≡ filter (is_of_hart h) events
+log_events work seed logs events are h log is = ap events_of (are.by_place h log is) ∙ numbered_of h 0 events
 
--- a finished run of the one hart is a run of all harts
-pub one_run : (work : Work) (seed : ℕ) (lines : List Line) → hart_count work ≡ 1 → IsFinishedRun work seed 0 lines → OneRun work seed lines
-one_run work seed lines one run =
-    let owned : Own 0 (hart_count work) lines = own lines (start work seed 0) run.end 0 (hart_count work) refl (omega (arith, one)) run.run in
-    record {
-      members = owned.members;
-      runs = λ h small.
-          let zero : h ≡ 0 = omega (arith, one) in
-          subst (λ k. IsFinishedRun work seed k (lines_of k lines)) (sym zero) (subst (λ ls. IsFinishedRun work seed 0 ls) (sym owned.same) run);
-    }
+pub hart_run : (work : Work) (seed : ℕ) (logs : List LogSeen) (events : List Event) → AreLogsOf work seed logs events → (h : ℕ) → h < hart_count work
+    → IsFinishedRun work seed h (filter (is_of_hart h) events)
+hart_run work seed logs events are h small =
+    let log = log_at work seed logs events are h small in
+    subst (IsFinishedRun work seed h) (log_events work seed logs events are h log.0 log.1) (are.logs_are h log.0 log.1).run
 
--- ---- a run of all harts answers the job
+-- ---- no event holds a part
 
-pub answers : (work : Work) (seed : ℕ) (lines : List Line) → OneRun work seed lines → (trees : Forest) → Answers work trees seed (hart_count work) lines
-answers work seed lines whole trees = record {
-  count = refl;
-  members = whole.members;
-  blocks = λ h small. let run = whole.runs h small in
-      answers_of_run (start work seed h) run.end (lines_of h lines) refl named_start refl run.run run.is_finished;
+holds_none : (part : Part) (e : Event) → e.parts ≡ no_parts → holds part e ≡ false
+holds_none (a_space n) e none = ap (λ q. holds (a_space n) (record e { parts = q })) none
+holds_none the_pages e none = ap (λ q. holds the_pages (record e { parts = q })) none
+holds_none the_choices e none = ap (λ q. holds the_choices (record e { parts = q })) none
+holds_none (a_shard n) e none = ap (λ q. holds (a_shard n) (record e { parts = q })) none
+
+none_hold : (part : Part) (events : List Event) → AllByRecursion (λ (e : Event). e.parts ≡ no_parts) events → filter (holds part) events ≡ []
+none_hold part [] none = refl
+none_hold part (e ∷ es) none = ap (λ t. cond t (e ∷ filter (holds part) es) (filter (holds part) es)) (holds_none part e none.0) ∙ none_hold part es none.1
+
+stands_still : {S : Type 0} (legal : S → Event → Type 0) (after : S → Event → S) (opening : S) (part : Part) (events : List Event) → AllByRecursion (λ (e : Event). e.parts ≡ no_parts) events
+    → StandsFor legal after opening (filter (holds part) events)
+stands_still legal after opening part events none = subst (StandsFor legal after opening) (sym (none_hold part events none)) (record { contents = opening; run = refl })
+
+-- The events of all harts are one run, whatever the trees.
+pub one_run : (work : Work) (seed : ℕ) (logs : List LogSeen) (events : List Event) → AreLogsOf work seed logs events → (forest : Forest) → OneRun work forest seed events
+one_run work seed logs events are forest = record {
+  members = are.members;
+  harts = hart_run work seed logs events are;
+  parts = record {
+    spaces = λ n small. stands_still (space_legal work) (space_after work) (opening_space work n) (a_space n) events are.parts;
+    pages = stands_still (pages_legal work) pages_after [] the_pages events are.parts;
+    choices = stands_still (choices_legal work) choices_after forest the_choices events are.parts;
+    shards = λ n small. stands_still (shard_legal work) shard_after opening_shard (a_shard n) events are.parts;
+  };
 }
 
--- ---- the pieces of the image lie apart
+-- ---- each event's lines are its hart's
 
--- what x1 to x31 of each hart start with
-abbrev Table : Type 0
-Table = ℕ → ℕ → Option ℕ
-
-startup_laid : (initial : Table) → AreLaid 0x80000000 (startup_pieces initial 1) 0x80002000
-startup_laid initial = (lit≤ tt, (lit≤ tt, (lit≤ tt, (lit≤ tt, lit≤ tt))))
-
-handlers_laid : AreLaid 0x80020000 handler_pieces 0x80022000
-handlers_laid = (lit≤ tt, (lit≤ tt, lit≤ tt))
-
-front_laid : (initial : Table) → AreLaid 0x80000000 (startup_pieces initial 1 ++ handler_pieces) 0x84000000
-front_laid initial =
-    laid_within 0x80000000 0x80000000 (startup_pieces initial 1 ++ handler_pieces) 0x80022000 0x84000000
-    (laid-append 0x80000000 (startup_pieces initial 1) 0x80002000 handler_pieces 0x80022000 (startup_laid initial)
-    (laid_within 0x80020000 0x80002000 handler_pieces 0x80022000 0x80022000 handlers_laid (lit≤ tt) (lit≤ tt)))
-    (lit≤ tt) (lit≤ tt)
-
--- ---- whatever else stands in memory and registers
-
-start_told : (x : Registers) → x 0 ≡ Some 0 → TellsMore (updated (λ q. None) 0 (Some 0)) x
-start_told x is_zero r v = at (eqb r 0) refl
-  where
-    at : (b : Bool) → b ≡ eqb r 0 → cond b (Some 0) None ≡ Some v → x r ≡ Some v
-    at true is e = let same : r ≡ 0 = eqb-true r 0 (sym is) in ap x same ∙ is_zero ∙ e
-    at false is e = absurd cc
-
--- a hart at its start stands where its log begins
-over_start : (work : Work) (seed h : ℕ) (hart : Hart) → IsStart h hart → Over hart.x (start work seed h) hart
-over_start work seed h hart at = record {
-  mcause = hart.csrs.mcause;
-  mtval = hart.csrs.mtval;
-  same = λ i. record { number = at.number i; pc = at.pc i; x = hart.x; mode = at.mode i; csrs = at.csrs i; reserved = at.reserved i };
-  registers = start_told hart.x at.zero;
-  untouched = λ r none. refl;
-}
-
-pub justified : (work : Work) (seed : ℕ) (lines : List Line) → hart_count work ≡ 1 → IsFinishedRun work seed 0 lines → Justified work lines
-unfolding Running Named AllOver
-justified work seed lines one run machine starts =
-    let first : ℕ → HartState = start work seed in
-    let owned : Own 0 (hart_count work) lines = own lines (first 0) run.end 0 (hart_count work) refl (omega (arith, one)) run.run in
-    let run_of_0 : Runs legal after (first 0) (lines_of 0 lines) run.end =
-    subst (λ ls. Runs legal after (first 0) ls run.end) (sym owned.same) run.run in
-    let code : Coded 0 [] lines run.end = coded lines (first 0) run.end 0 [] refl refl run.run in
-    let holds : Holds machine.seen.byte (code_pieces lines) = λ a b e.
-    starts.memory a b (subst (λ n. byte_in (startup_pieces (starting lines) n ++ handler_pieces ++ code_pieces lines) a ≡ Some b) (sym one)
-    (byte_behind 0x80000000 (startup_pieces (starting lines) 1 ++ handler_pieces) 0x84000000 (code_pieces lines) _ a b (front_laid (starting lines)) code.laid_out e)) in
-    playing (hart_count work) lines (λ h. (machine.harts h).x) first (λ h. run.end) machine owned.members
-    (λ h small. let zero : 0 ≡ h = omega (arith, one) in subst (λ k. Runs legal after (first k) (lines_of k lines) run.end) zero run_of_0)
-    (λ h small. refl)
-    (λ h small. over_start work seed h (machine.harts h) (starts.harts h small))
-    starts.registers
-    (tells machine.seen lines (first 0) run.end 0 [] refl refl run.run holds)
-
--- ---- each register starts with the value that a line fixes
-
--- of lines before, those that fix a register have given it a value
-abbrev Noted : Registers → Registers → Type 0
-Noted registers initial = (r : ℕ) → registers r ≡ None → initial r ≡ None
-
-noted_next : (f g : ℕ → Option ℕ) (before : List Line) (l : Line) (h : ℕ) → Noted f (starting before h)
-    → ((r : ℕ) → g r ≡ None → (f r ≡ None) × (fixed_by h r l ≡ None)) → Noted g (starting (before ++ l ∷ []) h)
-noted_next f g before l h noted more r none =
-    let both = more r none in
-    starting_append before (l ∷ []) h r ∙ ap (λ o. option_or o (option_or (fixed_by h r l) None)) (noted r both.0) ∙ ap (λ o. option_or {T = ℕ} o None) both.1
-
-untouched_before : (f : ℕ → Option ℕ) (w : Option (ℕ × ℕ)) (r : ℕ) → with_write f w r ≡ None → f r ≡ None
-untouched_before f None r none = none
-untouched_before f (Some w) r none = at (eqb r w.0) none
-  where
-    at : (b : Bool) → cond b (Some w.1) (f r) ≡ None → f r ≡ None
-    at true e = absurd cc
-    at false e = e
-
-other_untouched : (f : ℕ → Option ℕ) (h register value r : ℕ) → updated f register (Some value) r ≡ None → (f r ≡ None) × (fixed_by h r (fixed h register value) ≡ None)
-other_untouched f h register value r = at (eqb r register) refl
-  where
-    at : (b : Bool) → b ≡ eqb r register → cond b (Some value) (f r) ≡ None → (f r ≡ None) × (fixed_by h r (fixed h register value) ≡ None)
-    at true e none = absurd cc
-    at false e none =
-        let miss : eqb register r ≡ false = turned r register (sym e) in
-        (none, ap (λ b. cond (eqb h h && b) (Some value) None) miss ∙ nothing (eqb h h))
-      where
-        nothing : (b : Bool) → cond (b && false) (Some value) None ≡ None
-        nothing true = refl
-        nothing false = refl
-
--- x0 has a value, and keeps one
-zero_written : (f : ℕ → Option ℕ) (w : Option (ℕ × ℕ)) → is_none (f 0) ≡ false → is_none (with_write f w 0) ≡ false
-zero_written f None has = has
-zero_written f (Some w) has = at (eqb 0 w.0)
-  where
-    had : is_none (f 0) ≡ false
-    had = has
-
-    at : (b : Bool) → is_none (cond b (Some w.1) (f 0)) ≡ false
-    at true = refl
-    at false = had
-
-registers-with_begun : (s : HartState) (rs : List Request) → (with_begun s rs).machine.x ≡ s.machine.x
-registers-with_begun s [] = refl
-registers-with_begun s (r ∷ rs) = refl
-
--- the first line that fixes the register
-fixed_first : (before ls : List Line) (h register value : ℕ) → starting before h register ≡ None
-    → starting (before ++ fixed h register value ∷ ls) h register ≡ Some value
-fixed_first before ls h register value none =
-    starting_append before (fixed h register value ∷ ls) h register
-    ∙ ap (λ o. option_or o (option_or (fixed_by h register (fixed h register value)) (starting ls h register))) none
-    ∙ ap (λ b. option_or (cond (b && eqb register register) (Some value) None) (starting ls h register)) (eq-eqb h h refl)
-    ∙ ap (λ b. option_or (cond b (Some value) None) (starting ls h register)) (eq-eqb register register refl)
-
-fixed_once : (before lines : List Line) (s end : HartState) (h : ℕ) → s.machine.number ≡ h → is_none (s.machine.x 0) ≡ false → Noted s.machine.x (starting before h)
-    → Runs legal after s lines end → AllByRecursion (IsStarting (starting (before ++ lines))) lines
-fixed_once before [] s end h is has noted run = tt
-fixed_once before (request h' k kind ∷ ls) s end h is has noted run =
-    let line : Line = request h' k kind in
-    let same = registers-with_begun s s.left in (
-      tt,
-      subst (λ all. AllByRecursion (IsStarting (starting all)) ls) (append_assoc before (line ∷ []) ls)
-          (fixed_once (before ++ line ∷ []) ls (with_begun s s.left) end h (number-with_begun s s.left ∙ is) (subst (λ f. is_none (f 0) ≡ false) (sym same) has)
-          (subst (λ f. Noted f (starting (before ++ line ∷ []) h)) (sym same) (noted_next s.machine.x s.machine.x before line h noted (λ r none. (none, refl)))) run.1),
-    )
-fixed_once before (fixed h' register value ∷ ls) s end h is has noted run =
-    let line : Line = fixed h' register value in
-    let of_hart : h' ≡ h = run.0.of_hart ∙ is in
-    let none : s.machine.x register ≡ None = read_next s.phase s.machine.x register run.0.reads in
-    let first : starting (before ++ line ∷ ls) h' register ≡ Some value =
-    fixed_first before ls h' register value (subst (λ q. starting before q register ≡ None) (sym of_hart) (noted register none)) in (
-      (first, positive register none, run.0.register_is, run.0.small),
-      subst (λ all. AllByRecursion (IsStarting (starting all)) ls) (append_assoc before (line ∷ []) ls)
-          (fixed_once (before ++ line ∷ []) ls (after s line) end h is (zero_written s.machine.x (Some (register, value)) has)
-          (noted_next s.machine.x (updated s.machine.x register (Some value)) before line h noted
-          (λ r gone. subst (λ q. (s.machine.x r ≡ None) × (fixed_by h r (fixed q register value) ≡ None)) (sym of_hart) (other_untouched s.machine.x h register value r gone))) run.1),
-    )
-  where
-    has_zero : is_none (s.machine.x 0) ≡ false
-    has_zero = has
-
-    positive : (r : ℕ) → s.machine.x r ≡ None → 0 < r
-    positive zero none = absurd (let both : is_none (s.machine.x 0) ≡ true = ap is_none none in cc)
-    positive (suc r) none = omega arith
-fixed_once before (made e ∷ ls) s end h is has noted run =
-    let line : Line = made e in
-    let same = registers_after s e run.0.1 in (
-      tt,
-      subst (λ all. AllByRecursion (IsStarting (starting all)) ls) (append_assoc before (line ∷ []) ls)
-          (fixed_once (before ++ line ∷ []) ls (moved s e stepped) end h (number_after s (effect_word e) ∙ is)
-          (subst (λ f. is_none (f 0) ≡ false) (sym same) (zero_written s.machine.x e.rd has))
-          (subst (λ f. Noted f (starting (before ++ line ∷ []) h)) (sym same)
-          (noted_next s.machine.x (with_write s.machine.x e.rd) before line h noted (λ r none. (untouched_before s.machine.x e.rd r none, refl)))) run.1),
-    )
-fixed_once before (ending e ∷ ls) s end h is has noted run =
-    let line : Line = ending e in
-    let same = registers_after s e run.0.2 in (
-      tt,
-      subst (λ all. AllByRecursion (IsStarting (starting all)) ls) (append_assoc before (line ∷ []) ls)
-          (fixed_once (before ++ line ∷ []) ls (moved s e finished) end h (number_after s (effect_word e) ∙ is)
-          (subst (λ f. is_none (f 0) ≡ false) (sym same) (zero_written s.machine.x e.rd has))
-          (subst (λ f. Noted f (starting (before ++ line ∷ []) h)) (sym same)
-          (noted_next s.machine.x (with_write s.machine.x e.rd) before line h noted (λ r none. (untouched_before s.machine.x e.rd r none, refl)))) run.1),
-    )
-fixed_once before (done h' k ∷ ls) s end h is has noted run = (
-  tt,
-  subst (λ all. AllByRecursion (IsStarting (starting all)) ls) (append_assoc before (done h' k ∷ []) ls)
-      (fixed_once (before ++ done h' k ∷ []) ls (after s (done h' k)) end h is has
-      (noted_next s.machine.x s.machine.x before (done h' k) h noted (λ r none. (none, refl))) run.1),
+-- what holds of the events of each hart
+spread : (n : ℕ) (P : ℕ → Event → Type 0) (events : List Event) → AllByRecursion (λ (e : Event). e.hart < n) events
+    → ((h : ℕ) → h < n → AllByRecursion (P h) (filter (is_of_hart h) events)) → AllByRecursion (λ (e : Event). P e.hart e) events
+spread n P [] members each = tt
+spread n P (e ∷ es) members each = (
+  head (is_of_hart e.hart e) (eq-eqb e.hart e.hart refl) (each e.hart members.0),
+  spread n P es members.1 (λ h small. tail h (is_of_hart h e) (each h small)),
 )
-fixed_once before (other ∷ ls) s end h is has noted run = absurd run.0
+  where
+    head : (t : Bool) → t ≡ true → AllByRecursion (P e.hart) (cond t (e ∷ filter (is_of_hart e.hart) es) (filter (is_of_hart e.hart) es)) → P e.hart e
+    head true is all = all.0
+    head false is all = absurd cc
 
-pub fixes_once : (work : Work) (seed : ℕ) (lines : List Line) → IsFinishedRun work seed 0 lines → AllByRecursion (IsStarting (starting lines)) lines
-fixes_once work seed lines run = fixed_once [] lines (start work seed 0) run.end 0 refl refl (λ r none. refl) run.run
+    tail : (h : ℕ) (t : Bool) → AllByRecursion (P h) (cond t (e ∷ filter (is_of_hart h) es) (filter (is_of_hart h) es)) → AllByRecursion (P h) (filter (is_of_hart h) es)
+    tail h true all = all.1
+    tail h false all = all
 
--- ---- the segments are the image
+kept_parts : (h : ℕ) (events : List Event) → AllByRecursion (λ (e : Event). e.parts ≡ no_parts) events → AllByRecursion (λ (e : Event). e.parts ≡ no_parts) (filter (is_of_hart h) events)
+kept_parts h [] none = tt
+kept_parts h (e ∷ es) none = of (is_of_hart h e) (kept_parts h es none.1)
+  where
+    of : (t : Bool) → AllByRecursion (λ (e : Event). e.parts ≡ no_parts) (filter (is_of_hart h) es)
+        → AllByRecursion (λ (e : Event). e.parts ≡ no_parts) (cond t (e ∷ filter (is_of_hart h) es) (filter (is_of_hart h) es))
+    of true more = (none.0, more)
+    of false more = more
 
--- the lengths of the three segments
-pub segments_hold_image : (work : Work) (seed : ℕ) (lines : List Line) (code : List ℕ) (end : HartState) → hart_count work ≡ 1
-    → Runs legal after (start work seed 0) lines end → length end.words ≤ 1024 → code ≡ word_bytes end.words
-    → (a : ℕ) → memory_of (
-    record { at = 0x80000000; bytes = laid 0x80000000 (startup_pieces (starting lines) 1); size = 0x2000; flags = 5 }
-    ∷ record { at = 0x80020000; bytes = laid 0x80020000 handler_pieces; size = 0x2000; flags = 5 }
-    ∷ record { at = 0x84000000; bytes = code; size = 0x1000; flags = 5 }
-    ∷ []) a ≡ image work lines a
-segments_hold_image work seed lines code end one run short is a =
-    let c : Coded 0 [] lines end = coded lines (start work seed 0) end 0 [] refl refl run in
-    let many : length end.words ≡ length c.rest = ap length c.words in
-    let code_laid : AreLaid 0x84000000 (code_pieces lines) (0x84000000 + 0x1000) =
-    laid_within 0x84000000 0x84000000 (code_pieces lines) (code_address 0 (0 + length c.rest)) (0x84000000 + 0x1000) c.laid_out (omega arith) (omega (arith, many)) in
-    let bytes : code ≡ laid 0x84000000 (code_pieces lines) = is ∙ ap word_bytes c.words ∙ sym c.bytes in
-    let third : memory_of (record { at = 0x84000000; bytes = code; size = 0x1000; flags = 5 } ∷ []) a ≡ filled (code_pieces lines) a =
-    ap (λ bs. memory_of (record { at = 0x84000000; bytes = bs; size = 0x1000; flags = 5 } ∷ []) a) bytes
-    ∙ memory_joins 0x84000000 0x1000 5 (code_pieces lines) [] [] 0x90000000 a code_laid (lit≤ tt) refl
-    ∙ ap (λ ps. filled ps a) (append-nil (code_pieces lines)) in
-    let second = memory_joins 0x80020000 0x2000 5 handler_pieces (record { at = 0x84000000; bytes = code; size = 0x1000; flags = 5 } ∷ []) (code_pieces lines) (0x84000000 + 0x1000) a
-    handlers_laid (laid_within 0x84000000 0x80022000 (code_pieces lines) (0x84000000 + 0x1000) (0x84000000 + 0x1000) code_laid (lit≤ tt) (lit≤ tt)) third in
-    let behind : AreLaid 0x80002000 (handler_pieces ++ code_pieces lines) (0x84000000 + 0x1000) =
-    laid_within 0x80020000 0x80002000 (handler_pieces ++ code_pieces lines) (0x84000000 + 0x1000) (0x84000000 + 0x1000)
-    (laid-append 0x80020000 handler_pieces 0x80022000 (code_pieces lines) (0x84000000 + 0x1000) handlers_laid
-    (laid_within 0x84000000 0x80022000 (code_pieces lines) (0x84000000 + 0x1000) (0x84000000 + 0x1000) code_laid (lit≤ tt) (lit≤ tt))) (lit≤ tt) (lit≤ tt) in
-    let first = memory_joins 0x80000000 0x2000 5 (startup_pieces (starting lines) 1) (record { at = 0x80020000; bytes = laid 0x80020000 handler_pieces; size = 0x2000; flags = 5 } ∷ record { at = 0x84000000; bytes = code; size = 0x1000; flags = 5 } ∷ []) (handler_pieces ++ code_pieces lines) (0x84000000 + 0x1000) a (startup_laid (starting lines)) behind second in
-    first ∙ ap (λ ps. filled ps a) (sym (append_assoc (startup_pieces (starting lines) 1) handler_pieces (code_pieces lines)))
-    ∙ ap (λ n. filled (startup_pieces (starting lines) n ++ handler_pieces ++ code_pieces lines) a) (sym one)
+-- what the lines of a hart's own events give its registers
+abbrev own_starting : List Event → ℕ → ℕ → Option ℕ
+own_starting events h = starting (all_lines (filter (is_of_hart h) events)) h
+
+events_own : (work : Work) (seed : ℕ) (logs : List LogSeen) (events : List Event) → AreLogsOf work seed logs events
+    → AllByRecursion (λ (e : Event). AllByRecursion (IsOwn e.hart (own_starting events e.hart)) e.lines) events
+events_own work seed logs events are =
+    spread (hart_count work) (λ h e. AllByRecursion (IsOwn h (own_starting events h)) e.lines) events are.members
+    (λ h small. let r = hart_run work seed logs events are h small in
+    (told_of_run work seed h (filter (is_of_hart h) events) r.end (kept_parts h events are.parts) r.run).own)
+
+own_hart : (h : ℕ) (first : ℕ → Option ℕ) (l : Line) → IsOwn h first l → hart_of l ≡ h
+own_hart h first (request hart k kind) own = own
+own_hart h first (picked hart tree leaf word) own = own
+own_hart h first (weighed hart tree path weight) own = own
+own_hart h first (fixed hart register value) own = own.0
+own_hart h first (given hart object page frame) own = absurd own
+own_hart h first (settled hart space e) own = absurd own
+own_hart h first (touched hart at bytes) own = absurd own
+own_hart h first (made e) own = own
+own_hart h first (found e) own = own
+own_hart h first (ending e) own = own
+own_hart h first (done hart k) own = own
+own_hart h first (refused hart k cause preamble) own = own
+
+-- the lines of one hart, among those of this or of another
+lines_kept : (h k : ℕ) (first : ℕ → Option ℕ) (ls : List Line) → AllByRecursion (IsOwn k first) ls → lines_of h ls ≡ cond (eqb k h) ls []
+lines_kept h k first [] own = of (eqb k h)
+  where
+    of : (t : Bool) → [] ≡ cond {A = List Line} t [] []
+    of true = refl
+    of false = refl
+lines_kept h k first (l ∷ ls) own =
+    ap (λ n. cond (eqb n h) (l ∷ lines_of h ls) (lines_of h ls)) (own_hart k first l own.0) ∙ of (eqb k h) (lines_kept h k first ls own.1)
+  where
+    of : (t : Bool) → lines_of h ls ≡ cond t ls [] → cond t (l ∷ lines_of h ls) (lines_of h ls) ≡ cond t (l ∷ ls) []
+    of true more = ap (λ q. l ∷ q) more
+    of false more = more
+
+lines_by_hart : (h : ℕ) (first : ℕ → ℕ → Option ℕ) (events : List Event) → AllByRecursion (λ (e : Event). AllByRecursion (IsOwn e.hart (first e.hart)) e.lines) events
+    → lines_of h (all_lines events) ≡ all_lines (filter (is_of_hart h) events)
+lines_by_hart h first [] own = refl
+lines_by_hart h first (e ∷ es) own =
+    filter-append (λ l. eqb (hart_of l) h) e.lines (all_lines es)
+    ∙ ap (λ q. q ++ lines_of h (all_lines es)) (lines_kept h e.hart (first e.hart) e.lines own.0)
+    ∙ of (eqb e.hart h) (lines_by_hart h first es own.1)
+  where
+    of : (t : Bool) → lines_of h (all_lines es) ≡ all_lines (filter (is_of_hart h) es)
+        → cond t e.lines [] ++ lines_of h (all_lines es) ≡ all_lines (cond t (e ∷ filter (is_of_hart h) es) (filter (is_of_hart h) es))
+    of true more = ap (λ q. e.lines ++ q) more
+    of false more = more
+
+-- The lines of one hart are those of its events.
+pub hart_lines : (work : Work) (seed : ℕ) (logs : List LogSeen) (events : List Event) → AreLogsOf work seed logs events → (h : ℕ) → h < hart_count work
+    → lines_of h (all_lines events) ≡ all_lines (filter (is_of_hart h) events)
+hart_lines work seed logs events are h small = lines_by_hart h (own_starting events) events (events_own work seed logs events are)
+
+-- ---- blocks
+
+-- Each request of a hart has its block.
+pub blocks_are : (work : Work) (seed : ℕ) (logs : List LogSeen) (events : List Event) → KeepsRules work → AreLogsOf work seed logs events → (h : ℕ) → h < hart_count work
+    → AreBlocks work h 0 (script work h) [] (lines_of h (all_lines events))
+blocks_are work seed logs events keeps are h small =
+    subst (AreBlocks work h 0 (script work h) []) (sym (hart_lines work seed logs events are h small))
+    (blocked work seed h (filter (is_of_hart h) events) keeps small (hart_run work seed logs events are h small))
+
+-- ---- ranges
+
+lines_in : (n h : ℕ) (first : ℕ → Option ℕ) (ls rest : List Line) → h < n → AllByRecursion (IsOwn h first) ls → AllByRecursion KeepsRanges ls → AllByRecursion (IsLine n) rest → AllByRecursion (IsLine n) (ls ++ rest)
+lines_in n h first [] rest small own ranges more = more
+lines_in n h first (l ∷ ls) rest small own ranges more = (
+  record { hart = subst (λ k. k < n) (sym (own_hart h first l own.0)) small; ranges = ranges.0 },
+  lines_in n h first ls rest small own.1 ranges.1 more,
+)
+
+all_in : (n : ℕ) (first : ℕ → ℕ → Option ℕ) (events : List Event) → AllByRecursion (λ (e : Event). e.hart < n) events
+    → AllByRecursion (λ (e : Event). AllByRecursion (IsOwn e.hart (first e.hart)) e.lines) events → AllByRecursion (λ (e : Event). AllByRecursion KeepsRanges e.lines) events
+    → AllByRecursion (IsLine n) (all_lines events)
+all_in n first [] members own ranges = tt
+all_in n first (e ∷ es) members own ranges =
+    lines_in n e.hart (first e.hart) e.lines (all_lines es) members.0 own.0 ranges.0 (all_in n first es members.1 own.1 ranges.1)
+
+-- The lines are those of a trace.
+pub trace_is : (work : Work) (seed : ℕ) (logs : List LogSeen) (events : List Event) → KeepsRules work → AreLogsOf work seed logs events → IsTrace (hart_count work) (all_lines events)
+trace_is work seed logs events keeps are = record {
+  some = keeps.some;
+  most = keeps.most;
+  are_lines = all_in (hart_count work) (own_starting events) events are.members (events_own work seed logs events are) are.ranges;
+}
+
+-- The lines answer the job.
+pub answers : (work : Work) (seed : ℕ) (logs : List LogSeen) (events : List Event) → KeepsRules work → AreLogsOf work seed logs events → (forest : Forest)
+    → Answers work forest seed events (all_lines events)
+answers work seed logs events keeps are forest = record {
+  are = refl;
+  run = one_run work seed logs events are forest;
+  blocks = blocks_are work seed logs events keeps are;
+  ranges = trace_is work seed logs events keeps are;
+}
+
+-- ---- what registers start with
+
+other_line : (h r : ℕ) (l : Line) → eqb (hart_of l) h ≡ false → fixed_by h r l ≡ None
+other_line h r (request hart k kind) other = refl
+other_line h r (picked hart tree leaf word) other = refl
+other_line h r (weighed hart tree path weight) other = refl
+other_line h r (fixed hart register value) other = ap (λ t. cond (t && eqb register r) (Some value) None) other
+other_line h r (given hart object page frame) other = refl
+other_line h r (settled hart space e) other = refl
+other_line h r (touched hart at bytes) other = refl
+other_line h r (made e) other = refl
+other_line h r (found e) other = refl
+other_line h r (ending e) other = refl
+other_line h r (done hart k) other = refl
+other_line h r (refused hart k cause preamble) other = refl
+
+-- the lines of other harts give a hart's registers nothing
+own_lines_start : (h r : ℕ) (ls : List Line) → starting (lines_of h ls) h r ≡ starting ls h r
+own_lines_start h r [] = refl
+own_lines_start h r (l ∷ ls) = of (eqb (hart_of l) h) refl (own_lines_start h r ls)
+  where
+    of : (t : Bool) → t ≡ eqb (hart_of l) h → starting (lines_of h ls) h r ≡ starting ls h r → starting (cond t (l ∷ lines_of h ls) (lines_of h ls)) h r ≡ option_or (fixed_by h r l) (starting ls h r)
+    of true e more = ap (option_or (fixed_by h r l)) more
+    of false e more = more ∙ sym (ap (λ m. option_or m (starting ls h r)) (other_line h r l (sym e)))
+
+-- So a hart's registers start with what the lines of its own events give them.
+pub starting_is : (work : Work) (seed : ℕ) (logs : List LogSeen) (events : List Event) → AreLogsOf work seed logs events → (h r : ℕ) → h < hart_count work
+    → starting (all_lines (filter (is_of_hart h) events)) h r ≡ starting (all_lines events) h r
+starting_is work seed logs events are h r small =
+    ap (λ ls. starting ls h r) (sym (hart_lines work seed logs events are h small)) ∙ own_lines_start h r (all_lines events)
+
+-- each line of its hart, which gives a register what the register starts with
+pub all_own : (work : Work) (seed : ℕ) (logs : List LogSeen) (events : List Event) → AreLogsOf work seed logs events
+    → AllByRecursion (λ (l : Line). (hart_of l < hart_count work) × IsOwn (hart_of l) (starting (all_lines events) (hart_of l)) l) (all_lines events)
+all_own work seed logs events are = over events are.members (events_own work seed logs events are)
+  where
+    same : (h : ℕ) → h < hart_count work → own_starting events h ≡ starting (all_lines events) h
+    same h small = λ i. λ r. starting_is work seed logs events are h r small i
+
+    within : (h : ℕ) (ls rest : List Line) → h < hart_count work → AllByRecursion (IsOwn h (own_starting events h)) ls
+        → AllByRecursion (λ (l : Line). (hart_of l < hart_count work) × IsOwn (hart_of l) (starting (all_lines events) (hart_of l)) l) rest
+        → AllByRecursion (λ (l : Line). (hart_of l < hart_count work) × IsOwn (hart_of l) (starting (all_lines events) (hart_of l)) l) (ls ++ rest)
+    within h [] rest small own more = more
+    within h (l ∷ ls) rest small own more = (
+      subst (λ k. (k < hart_count work) × IsOwn k (starting (all_lines events) k) l) (sym (own_hart h (own_starting events h) l own.0)) (small, subst (λ f. IsOwn h f l) (same h small) own.0),
+      within h ls rest small own.1 more,
+    )
+
+    over : (es : List Event) → AllByRecursion (λ (e : Event). e.hart < hart_count work) es → AllByRecursion (λ (e : Event). AllByRecursion (IsOwn e.hart (own_starting events e.hart)) e.lines) es
+        → AllByRecursion (λ (l : Line). (hart_of l < hart_count work) × IsOwn (hart_of l) (starting (all_lines events) (hart_of l)) l) (all_lines es)
+    over [] members own = tt
+    over (e ∷ es) members own = within e.hart e.lines (all_lines es) members.0 own.0 (over es members.1 own.1)
+
+-- the ranges of a line's register and value
+abbrev InRange : ℕ → ℕ → Type 0
+InRange r v = (1 ≤ r) × (r < 32) × (v < 2 ^ 64)
+
+line_small : (h r v : ℕ) (l : Line) → KeepsRanges l → fixed_by h r l ≡ Some v → InRange r v
+line_small h r v (request hart k kind) range is = absurd cc
+line_small h r v (picked hart tree leaf word) range is = absurd cc
+line_small h r v (weighed hart tree path weight) range is = absurd cc
+line_small h r v (fixed hart register value) range is = of (eqb hart h) (eqb register r) refl is
+  where
+    of : (t u : Bool) → u ≡ eqb register r → cond (t && u) (Some value) None ≡ Some v → InRange r v
+    of true true e is =
+        let at : register ≡ r = eqb-true register r (sym e) in
+        let gives : value ≡ v = cc in
+        subst (λ q. InRange q v) at (subst (λ w. InRange register w) gives range)
+    of true false e is = absurd cc
+    of false u e is = absurd cc
+line_small h r v (given hart object page frame) range is = absurd cc
+line_small h r v (settled hart space e) range is = absurd cc
+line_small h r v (touched hart at bytes) range is = absurd cc
+line_small h r v (made e) range is = absurd cc
+line_small h r v (found e) range is = absurd cc
+line_small h r v (ending e) range is = absurd cc
+line_small h r v (done hart k) range is = absurd cc
+line_small h r v (refused hart k cause preamble) range is = absurd cc
+
+lines_small : (n h r v : ℕ) (ls : List Line) → AllByRecursion (IsLine n) ls → starting ls h r ≡ Some v → InRange r v
+lines_small n h r v [] lines is = absurd cc
+lines_small n h r v (l ∷ ls) lines is = of (fixed_by h r l) refl (lines_small n h r v ls lines.1) is
+  where
+    of : (m : Option ℕ) → m ≡ fixed_by h r l → (starting ls h r ≡ Some v → InRange r v) → option_or m (starting ls h r) ≡ Some v → InRange r v
+    of None e more is = more is
+    of (Some w) e more is = line_small h r v l lines.0.ranges (sym e ∙ is)
+
+-- What the lines give registers is in its ranges.
+pub starting_small : (work : Work) (seed : ℕ) (logs : List LogSeen) (events : List Event) → KeepsRules work → AreLogsOf work seed logs events → (h r v : ℕ)
+    → starting (all_lines events) h r ≡ Some v → (1 ≤ r) × (r < 32) × (v < 2 ^ 64)
+starting_small work seed logs events keeps are h r v is =
+    lines_small (hart_count work) h r v (all_lines events) (trace_is work seed logs events keeps are).are_lines is
