@@ -1,62 +1,56 @@
--- A loop that lays bytes or tells harts for each element of a list, one behind another.
-use Rattle.std.proofs.Common.{ℕ, ◌+◌, ◌-◌, ◌<◌, ◌≡◌, List, [], ◌∷◌, ◌++◌, length, drop, get_or, replicate, Option, Some, None, refl, sym, ap, ◌∙◌, arith, append_assoc, length-append, append-nil}
-use Rattle.std.proofs.lemmas.List.{at_drop_more, length-replicate}
+-- Bytes that are laid piece by piece.
+use Rattle.std.proofs.Common.{ℕ, ◌+◌, ◌-◌, ◌≡◌, List, [], ◌∷◌, ◌++◌, length, replicate, refl, sym, ap, ◌∙◌, arith, lit≤, append_assoc, append-nil, length-append}
+use Rattle.std.proofs.lemmas.List.{length-replicate}
+use Rattle.rv_fields.specs.declared.mode.Mode.TheVariants.{S, M}
 use Rattle.ram_image.specs.Pieces.{Piece, laid}
-use Rattle.std.specs.List.{cons_option}
-use Rattle.std.specs.Option.{option_map, option_to_list}
-use Rattle.rv_fields.specs.Effect.{Effect}
-use Rattle.trace_text.specs.declared.line.Line as code
-use Rattle.trace_text.specs.Lines.{effect_of, effects_of}
-use Rattle.trace_text.specs.Views.{line_seen, lines_seen}
-use Rattle.run_merge.specs.Justified.{order_of}
+use Rattle.boot_words.specs.Boot.{handler}
+use Rattle.boot_words.specs.Layout.{m_handler_at, s_handler_at}
+use Rattle.run_merge.specs.Image.{handler_pieces, value_bytes, word_bytes}
 use Rattle.run_merge.proofs.Placed.{AreLaid}
 
--- laying one piece more behind others
-pub laid-push : (from : ℕ) (ps : List Piece) (to : ℕ) (p : Piece) → AreLaid from ps to
-    → laid from (ps ++ p ∷ []) ≡ laid from ps ++ (replicate (p.at - (from + length (laid from ps))) 0 ++ p.bytes)
-laid-push from [] to p h =
-    ap (λ n. replicate (p.at - n) 0 ++ (p.bytes ++ [])) (omega arith) ∙ ap (λ bs. replicate (p.at - (from + 0)) 0 ++ bs) (append-nil p.bytes)
-laid-push from (q ∷ ps) to p h =
-    let rest : List ℕ = laid (q.at + length q.bytes) ps in
-    let zeros : List ℕ = replicate (q.at - from) 0 in
-    let more : laid (q.at + length q.bytes) (ps ++ p ∷ []) ≡ rest ++ (replicate (p.at - (q.at + length q.bytes + length rest)) 0 ++ p.bytes) =
-    laid-push (q.at + length q.bytes) ps to p h.1 in
-    let long : from + length (zeros ++ (q.bytes ++ rest)) ≡ q.at + length q.bytes + length rest =
-    omega (arith, h.0, length-append zeros (q.bytes ++ rest), length-append q.bytes rest, length-replicate {A = ℕ} (q.at - from) 0) in
-    ap (λ bs. zeros ++ (q.bytes ++ bs)) more
-    ∙ ap (λ n. zeros ++ (q.bytes ++ (rest ++ (replicate (p.at - n) 0 ++ p.bytes)))) (sym long)
-    ∙ sym (ap (λ bs. zeros ++ bs) (append_assoc q.bytes rest (replicate (p.at - (from + length (zeros ++ (q.bytes ++ rest)))) 0 ++ p.bytes)))
-    ∙ sym (append_assoc zeros (q.bytes ++ rest) (replicate (p.at - (from + length (zeros ++ (q.bytes ++ rest)))) 0 ++ p.bytes))
+-- pieces behind others
+pub laid_behind : (from : ℕ) (ps qs : List Piece) (to : ℕ) → AreLaid from ps to
+    → laid from (ps ++ qs) ≡ laid from ps ++ laid (from + length (laid from ps)) qs
+laid_behind from [] qs to h = ap (λ n. laid n qs) (omega arith)
+laid_behind from (p ∷ ps) qs to h =
+    let next : ℕ = p.at + length p.bytes in
+    let rest : List ℕ = laid next ps in
+    let zeros : List ℕ = replicate (p.at - from) 0 in
+    let long : next + length rest ≡ from + length (zeros ++ (p.bytes ++ rest)) =
+    omega (arith, h.0, length-append zeros (p.bytes ++ rest), length-append p.bytes rest, length-replicate {A = ℕ} (p.at - from) 0) in
+    let tail : List ℕ = laid (from + length (zeros ++ (p.bytes ++ rest))) qs in
+    ap (λ bs. zeros ++ (p.bytes ++ bs)) (laid_behind next ps qs to h.1 ∙ ap (λ n. rest ++ laid n qs) long)
+    ∙ ap (λ bs. zeros ++ bs) (sym (append_assoc p.bytes rest tail))
+    ∙ sym (append_assoc zeros (p.bytes ++ rest) tail)
 
--- a piece more, from a place on that counts from the start
-pub laid_next : (start : ℕ) (ps : List Piece) (to : ℕ) (p : Piece) (place : ℕ) (old new : List ℕ) → AreLaid start ps to → p.at ≡ start + place
-    → old ≡ laid start ps → new ≡ old ++ (replicate (place - length old) 0 ++ p.bytes) → new ≡ laid start (ps ++ p ∷ [])
-laid_next start ps to p place old new h at is e =
-    let same : place - length old ≡ p.at - (start + length (laid start ps)) = omega (arith, at, ap length is) in
+-- a piece more behind bytes and pieces, from a place on that counts from the base
+pub laid_next : (base : ℕ) (first : List ℕ) (ps : List Piece) (to : ℕ) (p : Piece) (place : ℕ) (old new : List ℕ)
+    → AreLaid (base + length first) ps to → base + place ≡ p.at → old ≡ first ++ laid (base + length first) ps
+    → new ≡ old ++ (replicate (place - length old) 0 ++ p.bytes) → new ≡ first ++ laid (base + length first) (ps ++ p ∷ [])
+laid_next base first ps to p place old new h at is e =
+    let from : ℕ = base + length first in
+    let long : length old ≡ length first + length (laid from ps) = ap length is ∙ length-append first (laid from ps) in
+    let same : place - length old ≡ p.at - (from + length (laid from ps)) = omega (arith, at, long) in
+    let zeros : List ℕ = replicate (p.at - (from + length (laid from ps))) 0 in
     e ∙ ap (λ n. old ++ (replicate n 0 ++ p.bytes)) same
-    ∙ ap (λ bs. bs ++ (replicate (p.at - (start + length (laid start ps))) 0 ++ p.bytes)) is
-    ∙ sym (laid-push start ps to p h)
+    ∙ ap (λ bs. bs ++ (zeros ++ p.bytes)) is
+    ∙ append_assoc first (laid from ps) (zeros ++ p.bytes)
+    ∙ ap (λ bs. first ++ (laid from ps ++ (zeros ++ bs))) (sym (append-nil p.bytes))
+    ∙ ap (λ bs. first ++ bs) (sym (laid_behind from ps (p ∷ []) to h))
 
--- ---- the order, line by line
+-- so many bytes, then zeros up to the place, then the words or the values
+abbrev pub LaysWords : List ℕ → ℕ → List ℕ → List ℕ → Type 0
+LaysWords old place words new = new ≡ old ++ (replicate (place - length old) 0 ++ word_bytes words)
 
--- the harts of the steps of some lines
-abbrev pub harts_of : List code.Line → List ℕ
-harts_of lines = order_of (effects_of (lines_seen lines))
+abbrev pub LaysValues : List ℕ → ℕ → List ℕ → List ℕ → Type 0
+LaysValues old place values new = new ≡ old ++ (replicate (place - length old) 0 ++ value_bytes values)
 
-order_of-cons : (m : Option Effect) (es : List Effect) → order_of (cons_option m es) ≡ option_to_list (option_map (λ (e : Effect). e.hart) m) ++ order_of es
-order_of-cons None es = refl
-order_of-cons (Some e) es = refl
-
--- the hart of a line, where it is a step's
-abbrev stepping : code.Line → Option ℕ
-stepping line = option_map (λ (e : Effect). e.hart) (effect_of (line_seen line))
-
-pub order_more : (out whole : List ℕ) (lines : List code.Line) (i : ℕ) (line : code.Line) (hart : Option ℕ) → i < length lines
-    → line ≡ get_or lines i line → hart ≡ stepping line
-    → out ++ harts_of (drop i lines) ≡ whole → (out ++ option_to_list hart) ++ harts_of (drop (i + 1) lines) ≡ whole
-order_more out whole lines i line hart h at is e =
-    let rest : List ℕ = harts_of (drop (i + 1) lines) in
-    append_assoc out (option_to_list hart) rest
-    ∙ ap (λ m. out ++ (option_to_list m ++ rest)) (is ∙ ap stepping at)
-    ∙ sym (ap (λ bs. out ++ bs) (at_drop_more harts_of lines i line h ∙ order_of-cons (effect_of (line_seen (get_or lines i line))) (effects_of (lines_seen (drop (i + 1) lines)))))
-    ∙ e
+pub handler_bytes : (none b1 b2 h1 h2 : List ℕ) → none ≡ [] → h1 ≡ handler M → h2 ≡ handler S
+    → LaysWords none 0 h1 b1 → LaysWords b1 0x1000 h2 b2 → b2 ≡ laid m_handler_at handler_pieces
+handler_bytes none b1 b2 h1 h2 e is1 is2 l1 l2 =
+    let p1 : Piece = record { at = m_handler_at; bytes = word_bytes (handler M) } in
+    let p2 : Piece = record { at = s_handler_at; bytes = word_bytes (handler S) } in
+    let first : b1 ≡ laid m_handler_at (p1 ∷ []) =
+    laid_next m_handler_at [] [] m_handler_at p1 0 none b1 (lit≤ tt) refl e (l1 ∙ ap (λ ws. none ++ (replicate (0 - length none) 0 ++ word_bytes ws)) is1) in
+    laid_next m_handler_at [] (p1 ∷ []) s_handler_at p2 0x1000 b1 b2 (lit≤ tt, lit≤ tt) refl first
+    (l2 ∙ ap (λ ws. b1 ++ (replicate (0x1000 - length b1) 0 ++ word_bytes ws)) is2)

@@ -1,6 +1,6 @@
 -- The two handlers are the pieces of their segment.
 use Rattle.std.proofs.Common.{ap}
-use Rattle.run_merge.proofs.Segmented.{handler_bytes}
+use Rattle.run_merge.proofs.Laying.{handler_bytes}
 use Rattle.run_merge.proofs.segments.handler_segment.Goals as goal
 
 pub returns : goal.returns
