@@ -1,8 +1,8 @@
 -- A line's hart stands behind those of the lines before it.
 use Rattle.std.proofs.Common.{ℕ, ◌+◌, Vec, Global, drop, Some, None, ap, sym, ◌∙◌, ◌++◌, append-nil}
-use Rattle.run_merge.proofs.Laying.{order_more, harts_of}
-use Rattle.run_merge.proofs.order.order_of.Goals as goal
-use Rattle.run_merge.proofs.order.order_of.Goals.{in-Some+in_ok-push-in-Some, in-None}
+use Rattle.run_merge.proofs.Ordering.{order_more, harts_of}
+use Rattle.run_merge.proofs.order.add_steps.Goals as goal
+use Rattle.run_merge.proofs.order.add_steps.Goals.{in-Some+in_ok-push-in-Some, in-None}
 
 pub loop-line-preserved : goal.loop-line-preserved
 loop-line-preserved c = elim c.match-stepping_hart.branch [
