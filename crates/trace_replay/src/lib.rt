@@ -1,0 +1,2 @@
+//! Whether a trace is what a program does from reset.
+#![tactic(auto)]
