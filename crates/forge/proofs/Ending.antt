@@ -6,7 +6,7 @@ use Rattle.forge.specs.declared.stop.Stop.{Stop}
 use Rattle.forge.specs.declared.stop.Stop.TheVariants.{Usage, Unread, Unwritten, NotBuilt, Memory}
 use Rattle.forge.specs.declared.made.Made.{Made}
 use Rattle.forge.specs.Words.{Command, command_of}
-use Rattle.region_plan.specs.Work.{hart_count}
+use Rattle.region_plan.specs.Plan.{hart_count}
 use Rattle.trace_text.specs.Lines.{Line}
 use Rattle.std.specs.List.{Contains}
 use Rattle.forge.specs.declared.made.Counts.{Counts}

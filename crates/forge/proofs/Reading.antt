@@ -5,7 +5,7 @@ use Rattle.store_face.specs.State.{Held, State}
 use Rattle.forge.specs.declared.stop.Stop.{Stop}
 use Rattle.forge.specs.declared.stop.Stop.TheVariants.{Usage, Unread, Unwritten, NotBuilt, Memory}
 use Rattle.forge.specs.Words.{Command}
-use Rattle.region_plan.specs.Work.{Work}
+use Rattle.region_plan.specs.Plan.{Work}
 use Rattle.job_read.specs.Accepted.{job_in}
 use Rattle.choice_tree.specs.Forest.{forest_in}
 use Rattle.forge.specs.Ends.{inputs, most_bytes, IsShort, IsThere, IsRefused}

@@ -1,7 +1,7 @@
 -- Which files are accepted, and which of them is refused.
 use Rattle.std.proofs.Common.{ℕ, ◌≡◌, ◌<◌, ◌≤◌, ◌⊎◌, inl, inr, arith, List, length, Option, Some, None, IsSomeAnd}
 use Rattle.choice_tree.specs.Forest.{forest_in}
-use Rattle.region_plan.specs.Work.{Work}
+use Rattle.region_plan.specs.Plan.{Work}
 use Rattle.job_read.specs.Accepted.{job_in}
 use Rattle.store_face.specs.State.{Held}
 use Rattle.forge.specs.Words.{Command}

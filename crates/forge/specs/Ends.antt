@@ -2,12 +2,12 @@
 use Rattle.std.specs.Prelude.{ℕ, suc, ◌≡◌, ◌≢◌, ◌<◌, ◌≤◌, ◌⊎◌, List, [], ◌∷◌, ◌++◌, length, take, codes, Option, Some, None, IfSome, IsSomeAnd, slice_get}
 use Rattle.std.specs.List.{AllByRecursion, Contains}
 use Rattle.choice_tree.specs.Forest.{Forest, forest_in}
-use Rattle.region_plan.specs.Work.{Work, hart_count}
+use Rattle.region_plan.specs.Plan.{Work, hart_count}
 use Rattle.trace_text.specs.Lines.{Line}
 use Rattle.job_read.specs.Accepted.{job_in}
 use Rattle.store_face.specs.State.{Held, State, Rose}
 use Rattle.forge.specs.Words.{Command, command_of}
-use Rattle.forge.specs.Generated.{IsRunOf, counts_text}
+use Rattle.forge.specs.Generated.{IsRunOf, counts_text, drawn}
 
 abbrev pub usage : List ℕ
 usage = codes "usage: make|make-serial JOB TREES SEED ELF ORDER TRACE; replay ELF ORDER TRACE; big N JOB TREES; check JOB TREES\n"
@@ -94,8 +94,8 @@ pub record LeavesRun (c : Command) (old new : State) (count : ℕ) : Type 0 wher
   -- job and trees stood in the two files at entry
   pub job_read : IfSome old.holds (λ before. Spells job_in before c.job work)
   pub trees_read : IfSome old.holds (λ before. Spells forest_in before c.trees trees)
-  -- the three files are a run of them
-  pub run : IsRunOf work trees c.seed elf order trace lines
+  -- the three files are a run of them under the drawn schedule
+  pub run : IsRunOf work trees c.seed drawn elf order trace lines
   -- they were written in this order, and so far
   pub left : Told old new (LeftBy (outputs c elf order trace) count)
 

@@ -1,45 +1,58 @@
--- What three files have to be to be made from a job, its trees and a seed. Nothing here speaks of how they were made.
-use Rattle.std.specs.Prelude.{ℕ, ◌≡◌, ◌+◌, ◌<◌, List, [], ◌∷◌, ◌++◌, length, codes, Bool, true, false, Some}
+-- What three files have to be to be made from a job, its trees, a seed and a schedule. Nothing here speaks of how they were made.
+use Rattle.std.specs.Prelude.{ℕ, ◌≡◌, ◌+◌, List, [], ◌++◌, codes, Bool, true, false, Some}
 use Rattle.std.specs.List.{count_by}
 use Rattle.std.specs.Fmt.{decimal}
-use Rattle.rv_fields.specs.Memory.{IsWhole}
-use Rattle.rv_fields.specs.Play.{Machine}
 use Rattle.elf_file.specs.Loading.{load}
+use Rattle.elf_file.specs.Writing.{elf_of}
 use Rattle.forge.specs.declared.made.Counts.{Counts}
 use Rattle.choice_tree.specs.Forest.{Forest}
-use Rattle.region_plan.specs.Work.{Work, hart_count}
+use Rattle.region_plan.specs.Plan.{Work, hart_count}
 use Rattle.trace_text.specs.Lines.{Line, made, found, ending, done, refused, effects_of}
-use Rattle.trace_text.specs.Text.{turns_of, trace_text, order_text}
-use Rattle.boot_words.specs.Startup.{IsBooted}
-use Rattle.run_merge.specs.Image.{image}
+use Rattle.world_face.specs.Events.{Event}
+use Rattle.hart_task.specs.Schedule.{FollowsList, FollowsSeed}
+use Rattle.run_merge.specs.Image.{AreImagesOf, HartImage, image, program}
 use Rattle.run_merge.specs.Answers.{Answers}
-use Rattle.run_merge.specs.Justified.{DoesAll, Justified}
-use Rattle.run_merge.specs.Order.{whole_order, boot_steps}
+use Rattle.run_merge.specs.Justified.{Justified}
+use Rattle.run_merge.specs.Order.{whole_order}
+use Rattle.trace_replay.specs.Passes.{PassesBy}
 
--- The machine that the file is loaded into: it is whole, each byte is the file's, and each hart of the job stands at its
--- start, with the registers that its table there has.
-pub record IsLoaded (work : Work) (elf : List ℕ) (machine : Machine) : Type 0 where
-  pub whole : IsWhole machine.seen
-  pub memory : (a : ℕ) → machine.seen.byte a ≡ load elf a
-  pub harts : (h : ℕ) → h < hart_count work → IsBooted machine.seen.byte h (machine.harts h)
+-- how turns are given to harts: by a list of their numbers, or by the seed
+pub data Schedule : Type 0 where
+  listed : List ℕ → Schedule
+  drawn : Schedule
 
--- The files are those of a run that the lines tell.
-pub record IsRunOf (work : Work) (trees : Forest) (seed : ℕ) (elf order trace : List ℕ) (lines : List Line) : Type 0 where
-  -- the trace spells the lines
-  pub trace_is : trace ≡ trace_text (hart_count work) lines
-  -- the order spells each hart's boot, and then the harts of the step lines
-  pub order_is : order ≡ order_text (hart_count work) (whole_order (hart_count work) (effects_of lines))
-  -- of one hart it has the one entry `0 C`, where C is 70 more than the step lines
-  pub one_entry : turns_of (whole_order (hart_count work) (effects_of lines))
-      ≡ record { hart = 0; count = boot_steps + length (effects_of lines) } ∷ []
+-- the harts take turns so
+abbrev pub Follows : Schedule → ℕ → ℕ → List Event → Type 0
+Follows (listed harts) count seed events = FollowsList count [] harts events
+Follows drawn count seed events = FollowsSeed count seed [] events
+
+-- The file is the one that the format makes of the program's segments in their order, with their flags.
+pub record IsProgramOf (work : Work) (lines : List Line) (elf : List ℕ) : Type 0 where
+  pub harts : List HartImage
+  -- what the harts bring is what the lines tell
+  pub images : AreImagesOf work lines harts
+  pub file : elf ≡ elf_of (program work harts)
+
+-- The files are those of a run that the lines tell, whose events these are, in the order in which they took place.
+pub record AreFilesOf (work : Work) (trees : Forest) (seed : ℕ) (events : List Event) (elf order trace : List ℕ) (lines : List Line) : Type 0 where
+  -- From every reset, the program does exactly what the trace tells. In the order the boots of all harts come first, and then the harts
+  -- of the step lines.
+  pub passes : PassesBy (hart_count work) (whole_order (hart_count work) (effects_of lines)) lines elf order trace
+  -- the executable holds the program
+  pub program_is : IsProgramOf work lines elf
   -- what the file is loaded as is the image, at every address
-  pub loads : (a : ℕ) → load elf a ≡ Some (image work lines a)
-  -- stepped from there, the harts do exactly what the step lines tell, in as many steps
-  pub plays : (machine : Machine) → IsLoaded work elf machine → DoesAll machine (effects_of lines)
+  pub image_is : (a : ℕ) → load elf a ≡ Some (image work lines a)
   -- late fixing is harmless: whatever else stood in memory and registers, they would do the same
   pub justified : Justified work lines
   -- the lines answer the job
-  pub answers : Answers work trees seed (hart_count work) lines
+  pub answers : Answers work trees seed events lines
+
+-- The files are those of a run under the schedule.
+pub record IsRunOf (work : Work) (trees : Forest) (seed : ℕ) (schedule : Schedule) (elf order trace : List ℕ) (lines : List Line) : Type 0 where
+  pub events : List Event
+  pub files : AreFilesOf work trees seed events elf order trace lines
+  -- an event is one turn: the harts take theirs as the schedule says
+  pub turns : Follows schedule (hart_count work) seed events
 
 -- the tests that a line is that of a step, that a request is done, and that one is refused
 abbrev pub is_step : Line → Bool

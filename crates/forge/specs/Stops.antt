@@ -3,7 +3,7 @@ use Rattle.std.specs.Prelude.{ℕ, ◌≡◌, ◌≤◌, ◌⊎◌, List, [], �
 use Rattle.std.specs.List.{Contains}
 use Rattle.std.specs.Fmt.{decimal}
 use Rattle.choice_tree.specs.Forest.{Forest, forest_in}
-use Rattle.region_plan.specs.Work.{Work, hart_count}
+use Rattle.region_plan.specs.Plan.{Work, hart_count}
 use Rattle.trace_text.specs.Lines.{Line}
 use Rattle.job_read.specs.Accepted.{job_in}
 use Rattle.store_face.specs.State.{Held, State, Rose}
@@ -13,7 +13,7 @@ use Rattle.forge.specs.declared.command.MakeSerial.{MakeSerial}
 use Rattle.forge.specs.declared.stop.Stop.{Stop}
 use Rattle.forge.specs.declared.stop.Stop.TheVariants.{Usage, Unread, Unwritten, NotBuilt, Memory}
 use Rattle.forge.specs.Words.{Command}
-use Rattle.forge.specs.Generated.{IsRunOf, IsCountOf}
+use Rattle.forge.specs.Generated.{IsRunOf, IsCountOf, drawn}
 use Rattle.forge.specs.Ends.{usage, refusal, most_bytes, Spells, IsRefused, Output, inputs, outputs, LeftBy, ReadFails, Ends}
 
 -- the command that the words were parsed into
@@ -105,7 +105,7 @@ pub record IsMadeFor (c : Command) (old : State) (made : Made) : Type 0 where
   pub job_read : WhereTold old (λ before. Spells job_in before c.job work)
   pub trees_read : WhereTold old (λ before. Spells forest_in before c.trees trees)
   pub lines : List Line
-  pub run : IsRunOf work trees c.seed made.elf.items made.order.items made.trace.items lines
+  pub run : IsRunOf work trees c.seed drawn made.elf.items made.order.items made.trace.items lines
   pub counts : IsCountOf made.counts (hart_count work) lines
 
 -- the numbers in words, without the newline
@@ -125,7 +125,7 @@ pub record IsMadeFrom (c : Command) (job trees : List ℕ) (made : Made) : Type 
   pub job_read : job_in job ≡ Some work
   pub trees_read : forest_in trees ≡ Some forest
   pub lines : List Line
-  pub run : IsRunOf work forest c.seed made.elf.items made.order.items made.trace.items lines
+  pub run : IsRunOf work forest c.seed drawn made.elf.items made.order.items made.trace.items lines
   pub counts : IsCountOf made.counts (hart_count work) lines
 
 -- one of the contents isn't accepted, and stopped the command

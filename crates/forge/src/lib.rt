@@ -13,5 +13,5 @@ mod tests;
 mod top;
 
 pub use made::{Counts, Made};
-pub use making::make_serial;
+pub use making::{make_serial, make_with};
 pub use top::plain_top;

@@ -6,7 +6,9 @@ use std::process::Abort;
 use std::test::Fail;
 use store_face::MemStore;
 
+mod boots;
 mod faults;
+mod harts;
 
 const USAGE: &str =
     "usage: make|make-serial JOB TREES SEED ELF ORDER TRACE; replay ELF ORDER TRACE; big N JOB TREES; check JOB TREES\n";
@@ -18,6 +20,14 @@ const WORDS: [&str; 7] = ["make-serial", "j", "t", "7", "e", "o", "r"];
 const JOB: &[u8] =
     b"{\"version\":1,\"harts\":[{\"mode\":\"M\",\"code_pages\":1,\"template\":[{\"ins\":\"addi\",\"rd\":1,\"rs1\":0,\"imm\":5}]}]}";
 
+/// What is printed of it, its order and its trace.
+const LINE: &str = "harts 1 steps 2 done 1 refused 0\n";
+
+const ORDER: &[u8] = b"order 1 1\n0 72\n";
+
+const TRACE: &[u8] =
+    b"trace 1 1\nq 0 0 ins\ns 0 84000000 84000000 00500093 1:5 - - -\nd 0 0\ne 0 84000004 84000004 0000006f - - - -\n";
+
 /// A job of one hart whose request reads two registers that nothing touched before.
 const SUM_JOB: &[u8] =
     b"{\"version\":1,\"harts\":[{\"mode\":\"M\",\"code_pages\":1,\"template\":[{\"ins\":\"add\",\"rd\":3,\"rs1\":1,\"rs2\":2}]}]}";
@@ -26,9 +36,9 @@ const SUM_JOB: &[u8] =
 const IDLE_JOB: &[u8] =
     b"{\"version\":1,\"harts\":[{\"mode\":\"M\",\"code_pages\":1,\"template\":[]}]}";
 
-/// A job of two harts.
-const TWO_HARTS: &[u8] =
-    b"{\"version\":1,\"harts\":[{\"mode\":\"M\",\"code_pages\":1,\"template\":[]},{\"mode\":\"M\",\"code_pages\":1,\"template\":[]}]}";
+/// A job of a hart in mode S, which isn't built.
+const MODE_S: &[u8] =
+    b"{\"version\":1,\"harts\":[{\"mode\":\"S\",\"code_pages\":1,\"template\":[]}]}";
 
 const TREES: &[u8] = b"{\"version\":1,\"trees\":[]}";
 
@@ -67,6 +77,39 @@ fn assert_ends(
     Ok(())
 }
 
+/// Makes the files of the job, without trees, under the seed, and asserts what is printed. The store has them.
+fn assert_made(
+    rt: &impl Abort,
+    alloc: Global,
+    job: &[u8],
+    seed: &str,
+    line: &str,
+) -> Result<MemStore, Fail> {
+    let mut store = holding(alloc, job, TREES)?;
+    let words = ["make-serial", "j", "t", seed, "e", "o", "r"];
+    assert_ends(rt, alloc, &words, &mut store, 0, line)?;
+    Ok(store)
+}
+
+/// Asserts that of the two files the one of the name isn't accepted.
+fn assert_refused(
+    rt: &impl Abort,
+    alloc: Global,
+    job: &[u8],
+    trees: &[u8],
+    name: &str,
+) -> Result<(), Fail> {
+    let mut store = holding(alloc, job, trees)?;
+    let line = format!(in alloc; "{name}: not built yet\n")?;
+    assert_ends(rt, alloc, &WORDS, &mut store, 6, &line)
+}
+
+/// Asserts that the file of the name holds the bytes.
+fn assert_holds(rt: &impl Abort, store: &MemStore, name: &str, bytes: &[u8]) -> Result<(), Fail> {
+    assert!(rt; store.files.get(name).ok_or("no file")? == bytes, "{name}");
+    Ok(())
+}
+
 /// Whether the file has the bytes at the offset.
 fn has(file: &[u8], offset: usize, bytes: &[u8]) -> bool {
     file.get(offset..)
@@ -83,33 +126,14 @@ fn header_at(number: usize) -> (usize, usize)
 
 #[test]
 fn one_request_is_made(rt: HostRuntime) -> Result<(), Fail> {
-    let mut store = holding(rt.alloc(), JOB, TREES)?;
-    assert_ends(
-        &rt,
-        rt.alloc(),
-        &WORDS,
-        &mut store,
-        0,
-        "harts 1 steps 2 done 1 refused 0\n",
-    )?;
-    assert!(rt; store.files.get("o").ok_or("no order")? == b"order 1 1\n0 72\n".as_slice());
-    let trace =
-        b"trace 1 1\nq 0 0 ins\ns 0 84000000 84000000 00500093 1:5 - - -\nd 0 0\ne 0 84000004 84000004 0000006f - - - -\n";
-    assert!(rt; store.files.get("r").ok_or("no trace")? == trace.as_slice());
-    Ok(())
+    let store = assert_made(&rt, rt.alloc(), JOB, "7", LINE)?;
+    assert_holds(&rt, &store, "o", ORDER)?;
+    assert_holds(&rt, &store, "r", TRACE)
 }
 
 #[test]
 fn the_elf_has_three_segments(rt: HostRuntime) -> Result<(), Fail> {
-    let mut store = holding(rt.alloc(), JOB, TREES)?;
-    assert_ends(
-        &rt,
-        rt.alloc(),
-        &WORDS,
-        &mut store,
-        0,
-        "harts 1 steps 2 done 1 refused 0\n",
-    )?;
+    let store = assert_made(&rt, rt.alloc(), JOB, "7", LINE)?;
     let elf = store.files.get("e").ok_or("no ELF")?;
     assert_eq!(rt; elf.len(), 20_485);
     assert!(rt; has(elf, 0x5000, &[0x93, 0x00, 0x50, 0x00, 0x6f]));
@@ -128,36 +152,20 @@ fn the_elf_has_three_segments(rt: HostRuntime) -> Result<(), Fail> {
 
 #[test]
 fn an_empty_template_has_one_step(rt: HostRuntime) -> Result<(), Fail> {
-    let mut store = holding(rt.alloc(), IDLE_JOB, TREES)?;
-    assert_ends(
-        &rt,
-        rt.alloc(),
-        &WORDS,
-        &mut store,
-        0,
-        "harts 1 steps 1 done 0 refused 0\n",
-    )?;
-    assert!(rt; store.files.get("o").ok_or("no order")? == b"order 1 1\n0 71\n".as_slice());
+    let line = "harts 1 steps 1 done 0 refused 0\n";
+    let store = assert_made(&rt, rt.alloc(), IDLE_JOB, "7", line)?;
+    assert_holds(&rt, &store, "o", b"order 1 1\n0 71\n")?;
     let trace = b"trace 1 1\ne 0 84000000 84000000 0000006f - - - -\n";
-    assert!(rt; store.files.get("r").ok_or("no trace")? == trace.as_slice());
-    Ok(())
+    assert_holds(&rt, &store, "r", trace)
 }
 
 /// The first two words of stream 1 of seed 7 are as another implementation of the generator gives them.
 #[test]
 fn untouched_sources_start_with_drawn_values(rt: HostRuntime) -> Result<(), Fail> {
-    let mut store = holding(rt.alloc(), SUM_JOB, TREES)?;
-    assert_ends(
-        &rt,
-        rt.alloc(),
-        &WORDS,
-        &mut store,
-        0,
-        "harts 1 steps 2 done 1 refused 0\n",
-    )?;
+    let store = assert_made(&rt, rt.alloc(), SUM_JOB, "7", LINE)?;
     let trace =
         b"trace 1 1\nq 0 0 ins\nx 0 1 e0bc229a2c4fd98a\nx 0 2 883be818776e53b8\ns 0 84000000 84000000 002081b3 3:68f80ab2a3be2d42 - - -\nd 0 0\ne 0 84000004 84000004 0000006f - - - -\n";
-    assert!(rt; store.files.get("r").ok_or("no trace")? == trace.as_slice());
+    assert_holds(&rt, &store, "r", trace)?;
     let elf = store.files.get("e").ok_or("no ELF")?;
     // What is loaded at 80001478 and at 80001480 stands in the first segment, whose file bytes begin at 1000.
     assert!(rt; has(elf, 0x2478, &0xe0bc_229a_2c4f_d98a_u64.to_le_bytes()));
@@ -169,59 +177,24 @@ fn untouched_sources_start_with_drawn_values(rt: HostRuntime) -> Result<(), Fail
 #[test]
 fn a_seed_may_have_leading_zeros_and_twenty_digits(rt: HostRuntime) -> Result<(), Fail> {
     for seed in ["007", "18446744073709551615", "00000000000000000000"] {
-        let mut store = holding(rt.alloc(), JOB, TREES)?;
-        let words = ["make-serial", "j", "t", seed, "e", "o", "r"];
-        assert_ends(
-            &rt,
-            rt.alloc(),
-            &words,
-            &mut store,
-            0,
-            "harts 1 steps 2 done 1 refused 0\n",
-        )?;
+        assert_made(&rt, rt.alloc(), JOB, seed, LINE)?;
     }
     Ok(())
 }
 
 #[test]
 fn what_is_not_built_is_refused(rt: HostRuntime) -> Result<(), Fail> {
-    let mut two_harts = holding(rt.alloc(), TWO_HARTS, TREES)?;
-    assert_ends(
-        &rt,
-        rt.alloc(),
-        &WORDS,
-        &mut two_harts,
-        6,
-        "j: not built yet\n",
-    )?;
-    let mut trees = holding(rt.alloc(), JOB, b"{\"version\":1,\"trees\":[1]}")?;
-    assert_ends(&rt, rt.alloc(), &WORDS, &mut trees, 6, "t: not built yet\n")?;
-    let mut both = holding(rt.alloc(), TWO_HARTS, b"[]")?;
-    assert_ends(&rt, rt.alloc(), &WORDS, &mut both, 6, "j: not built yet\n")
+    assert_refused(&rt, rt.alloc(), MODE_S, TREES, "j")?;
+    assert_refused(&rt, rt.alloc(), JOB, b"{\"version\":1,\"trees\":[1]}", "t")?;
+    assert_refused(&rt, rt.alloc(), MODE_S, b"[]", "j")
 }
 
 #[test]
 fn a_file_that_is_too_long_is_refused(rt: HostRuntime) -> Result<(), Fail> {
     let long = vec![in rt.alloc(); b' '; 4_194_305]?;
-    let mut long_job = holding(rt.alloc(), &long, TREES)?;
-    assert_ends(
-        &rt,
-        rt.alloc(),
-        &WORDS,
-        &mut long_job,
-        6,
-        "j: not built yet\n",
-    )?;
+    assert_refused(&rt, rt.alloc(), &long, TREES, "j")?;
     // Lengths come before forms.
-    let mut long_trees = holding(rt.alloc(), TWO_HARTS, &long)?;
-    assert_ends(
-        &rt,
-        rt.alloc(),
-        &WORDS,
-        &mut long_trees,
-        6,
-        "t: not built yet\n",
-    )
+    assert_refused(&rt, rt.alloc(), MODE_S, &long, "t")
 }
 
 #[test]

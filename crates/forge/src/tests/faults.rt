@@ -1,19 +1,15 @@
 //! What each status leaves: calls of the store that fail, files that aren't there, words that are no command's.
 
-use super::{JOB, TREES, USAGE, WORDS, assert_ends, holding, owned};
+use super::{
+    JOB, LINE, ORDER, TRACE, TREES, USAGE, WORDS, assert_ends, assert_holds, assert_made, holding,
+    owned,
+};
 use crate::plain_top;
 use std::alloc::Global;
 use std::fs;
 use std::process::Abort;
 use std::test::Fail;
 use store_face::{MemStore, RealStore, Store};
-
-const LINE: &str = "harts 1 steps 2 done 1 refused 0\n";
-
-const ORDER: &[u8] = b"order 1 1\n0 72\n";
-
-const TRACE: &[u8] =
-    b"trace 1 1\nq 0 0 ins\ns 0 84000000 84000000 00500093 1:5 - - -\nd 0 0\ne 0 84000004 84000004 0000006f - - - -\n";
 
 /// What the files that the command writes hold before it.
 const OLD: &[u8] = b"old";
@@ -30,8 +26,7 @@ fn with_old_files(alloc: Global) -> Result<MemStore, Fail> {
 
 /// The ELF that a run of the job leaves.
 fn whole_elf(rt: &impl Abort, alloc: Global) -> Result<Vec<u8>, Fail> {
-    let mut store = holding(alloc, JOB, TREES)?;
-    assert_ends(rt, alloc, &WORDS, &mut store, 0, LINE)?;
+    let store = assert_made(rt, alloc, JOB, "7", LINE)?;
     let elf = store.files.get("e").ok_or("no ELF")?;
     assert_eq!(rt; elf.len(), 20_485);
     Ok(Vec::from_slice(alloc, elf)?)
@@ -43,7 +38,7 @@ fn assert_whole(rt: &impl Abort, store: &MemStore, elf: &[u8], whole: usize) -> 
     for number in 0..3 {
         let (name, bytes) = files[number];
         let wanted = if number < whole { bytes } else { OLD };
-        assert!(rt; store.files.get(name).ok_or("no file")? == wanted, "{name}");
+        assert_holds(rt, store, name, wanted)?;
     }
     Ok(())
 }
@@ -54,7 +49,7 @@ fn the_order_cannot_be_written(rt: HostRuntime) -> Result<(), Fail> {
     let mut store = holding(rt.alloc(), JOB, TREES)?;
     store.failing = [3].to_vec(rt.alloc())?;
     assert_ends(&rt, rt.alloc(), &WORDS, &mut store, 5, "cannot write o\n")?;
-    assert!(rt; store.files.get("e").ok_or("no ELF")? == elf.as_slice());
+    assert_holds(&rt, &store, "e", &elf)?;
     assert!(rt; store.files.get("r").is_none());
     assert_eq!(rt;
         (store.calls, store.read_faults, store.write_faults),
@@ -87,8 +82,8 @@ fn each_call_fails_in_turn(rt: HostRuntime) -> Result<(), Fail> {
         store.failing = [call as u64].to_vec(rt.alloc())?;
         assert_ends(&rt, rt.alloc(), &WORDS, &mut store, status, line)?;
         assert_whole(&rt, &store, &elf, whole)?;
-        assert!(rt; store.files.get("j").ok_or("no job")? == JOB);
-        assert!(rt; store.files.get("t").ok_or("no trees")? == TREES);
+        assert_holds(&rt, &store, "j", JOB)?;
+        assert_holds(&rt, &store, "t", TREES)?;
     }
     Ok(())
 }
