@@ -9,8 +9,9 @@ pub record Reads (name : List ℕ) (most : ℕ) (old new : State) (result : Resu
   pub held : new.holds ≡ old.holds
   pub writes : new.write_faults ≡ old.write_faults
   pub counts_up : old.read_faults ≤ new.read_faults
-  -- a failed read is counted and named
+  -- a failed read is counted and named, and no other is
   pub failed : result ≡ Err Failed → Rose old.read_faults new.read_faults × (new.last ≡ name)
+  pub passed : result ≢ Err Failed → (new.read_faults ≡ old.read_faults) × (new.last ≡ old.last)
   -- true: the content is read; false: it is longer than asked for
   pub whole : result ≡ Ok true → IfSome old.holds (λ held. held name ≡ Some read) × (length read ≤ most)
   pub longer : result ≡ Ok false → IfSome old.holds (λ held. IsSomeAnd (held name) (λ content. most < length content))
@@ -25,5 +26,7 @@ pub record Writes {A : Type 0} (name bytes : List ℕ) (old new : State) (result
   pub others : KeepsOthers name old.holds new.holds
   pub reads : new.read_faults ≡ old.read_faults
   pub counts_up : old.write_faults ≤ new.write_faults
+  -- a failed write is counted and named, and no other is
   pub failed : result ≡ Err Failed → Rose old.write_faults new.write_faults × (new.last ≡ name)
+  pub passed : result ≢ Err Failed → (new.write_faults ≡ old.write_faults) × (new.last ≡ old.last)
   pub written : OnOk result (IfSome new.holds (λ held. held name ≡ Some bytes))

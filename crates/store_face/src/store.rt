@@ -1,6 +1,6 @@
 use crate::fault::StoreFault;
 
-/// A store of files by name.
+/// A store of files by name. It counts its failed calls, and keeps the name of the last.
 pub trait Store {
     ghost use Rattle.std.specs.Prelude.{ℕ};
     ghost use Rattle.store_face.specs.State.{State};
