@@ -1,5 +1,5 @@
 -- What the files of a run are.
-use Rattle.std.proofs.Common.{ℕ, ◌-◌, ◌≡◌, List, [], Some, Result, Ok, Err, IfOk, ◌∙◌}
+use Rattle.std.proofs.Common.{ℕ, ◌≡◌, List, [], Some, Result, Ok, Err, IfOk, ◌∙◌}
 use Rattle.elf_file.specs.Loading.{load}
 use Rattle.elf_file.specs.Writing.{elf_of}
 use Rattle.choice_tree.specs.Forest.{Forest}

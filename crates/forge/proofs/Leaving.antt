@@ -1,22 +1,15 @@
 -- Files that are written one after another.
-use Rattle.std.proofs.Common.{ℕ, zero, suc, ◌≡◌, ◌≢◌, ◌≤◌, refl, sym, ap, ◌∙◌, subst, arith, inl, inr, List, [], ◌∷◌, take, Option, Some, None, IsSomeAnd, Result, Ok, Err, IsErrAnd, IfErr}
-use Rattle.std.specs.Prelude.{MatchOption, slice_get}
+use Rattle.std.proofs.Common.{ℕ, zero, suc, ◌≡◌, ◌≢◌, ◌≤◌, refl, sym, ap, ◌∙◌, subst, arith, inl, inr, List, [], ◌∷◌, take, Option, Some, None, IsSomeAnd, Result, Ok, Err, IsErrAnd, IfErr, IfOk}
+use Rattle.std.specs.Prelude.{MatchOption, map, slice_get}
 use Rattle.std.specs.List.{AllByRecursion}
 use Rattle.store_face.specs.State.{Held, State, Rose}
 use Rattle.store_face.specs.Calls as store
 use Rattle.forge.specs.declared.made.Made.{Made}
-use Rattle.forge.specs.declared.stop.Stop.{Stop}
-use Rattle.forge.specs.declared.stop.Stop.TheVariants.{Usage, Unread, Unwritten, NotBuilt, Memory}
-use Rattle.forge.specs.Words.{Command}
-use Rattle.forge.specs.Ends.{Output, outputs, LeftBy, KeepsOthers}
+use Rattle.forge.specs.Words.{Making}
+use Rattle.forge.specs.Ends.{Ending, unwritten, Output, LeftBy}
 use Rattle.forge.specs.Stops.{WhereTold, Becomes, IsStoppedWrite, StopsLate, files_of}
 
 -- What holds of each of some first items holds of each of fewer, and of the last of them.
-all_taken : {A : Type 0} (P : A → Type 0) (n : ℕ) (xs : List A) → AllByRecursion P xs → AllByRecursion P (take n xs)
-all_taken P zero xs h = tt
-all_taken P (suc n) [] h = tt
-all_taken P (suc n) (x ∷ xs) h = (h.0, all_taken P n xs h.1)
-
 fewer : {A : Type 0} (P : A → Type 0) (n : ℕ) (xs : List A) → AllByRecursion P (take (suc n) xs) → AllByRecursion P (take n xs)
 fewer P zero xs h = tt
 fewer P (suc n) [] h = tt
@@ -89,76 +82,78 @@ one_written files n file old mid new at apart kept written left =
     more_told files n file old.holds new.holds at written (still_told files n file old.holds mid.holds new.holds at apart kept left)
 
 -- what stopped a write, since an earlier state
-pub stopped_since : (name : List ℕ) (old mid new : State) (stop : Stop) → old.write_faults ≤ mid.write_faults → IsStoppedWrite name mid new stop
-    → IsStoppedWrite name old new stop
-stopped_since name old mid new Usage up why = why
-stopped_since name old mid new (Unread file) up why = why
-stopped_since name old mid new (Unwritten file) up why = (why.0, rose, why.2)
+pub stopped_since : (name : List ℕ) (old mid new : State) (ending : Ending) → old.write_faults ≤ mid.write_faults → IsStoppedWrite name mid new ending
+    → IsStoppedWrite name old new ending
+stopped_since name old mid new (unwritten file) up why = (why.0, rose, why.2)
   where
     rose : Rose old.write_faults new.write_faults
     rose = elim why.1 [ inl below ↦ inl (omega (arith, below, up)) | inr full ↦ inr full ]
-stopped_since name old mid new (NotBuilt file) up why = why
-stopped_since name old mid new Memory up why = tt
+stopped_since name old mid new ending up why = why
 
 at_hand : {A : Type 0} (P : A → Type 0) (n : ℕ) (xs : List A) (x : A) → slice_get xs n ≡ Some x → P x → IsSomeAnd (slice_get xs n) P
 at_hand {A} P n xs x at p = let F : Option A → Type 0 = λ o. IsSomeAnd o P in subst F (sym at) p
 
-stopped_late : (c : Command) (made : Made) (n : ℕ) (file : Output) (old mid new : State) (stop : Stop) → slice_get (files_of c made) n ≡ Some file
-    → AllByRecursion (λ f. f.name ≢ file.name) (take n (files_of c made)) → store.KeepsOthers file.name mid.holds new.holds
-    → old.write_faults ≤ mid.write_faults → IsStoppedWrite file.name mid new stop → Becomes old mid (LeftBy (files_of c made) n)
-    → StopsLate c made old new stop
-stopped_late c made n file old mid new stop at apart kept up why left = record {
+stopped_late : (files : List Output) (n : ℕ) (file : Output) (old mid new : State) (ending : Ending) → slice_get files n ≡ Some file
+    → AllByRecursion (λ f. f.name ≢ file.name) (take n files) → store.KeepsOthers file.name mid.holds new.holds
+    → old.write_faults ≤ mid.write_faults → IsStoppedWrite file.name mid new ending → Becomes old mid (LeftBy files n)
+    → StopsLate files old new ending
+stopped_late files n file old mid new ending at apart kept up why left = record {
   number = n;
-  at_hand = at_hand (λ f. IsStoppedWrite f.name old new stop) n (files_of c made) file at (stopped_since file.name old mid new stop up why);
-  left = still_told (files_of c made) n file old.holds mid.holds new.holds at apart kept left;
+  at_hand = at_hand (λ f. IsStoppedWrite f.name old new ending) n files file at (stopped_since file.name old mid new ending up why);
+  left = still_told files n file old.holds mid.holds new.holds at apart kept left;
 }
 
-elf_whole : (c : Command) (made : Made) (old first : State) (elf : List ℕ) → elf ≡ made.elf.items → store.KeepsOthers c.elf old.holds first.holds
-    → WhereTold first (λ held. held c.elf ≡ Some elf) → Becomes old first (LeftBy (files_of c made) 1)
-elf_whole c made old first elf same kept written = one_written (files_of c made) 0 (record { name = c.elf; bytes = made.elf.items }) old old first refl tt kept
-    (λ held told. written held told ∙ ap Some same) (none_written (files_of c made) old)
+elf_whole : (m : Making) (made : Made) (old first : State) (elf : List ℕ) → elf ≡ made.elf.items → store.KeepsOthers m.elf old.holds first.holds
+    → WhereTold first (λ held. held m.elf ≡ Some elf) → Becomes old first (LeftBy (files_of m made) 1)
+elf_whole m made old first elf same kept written = one_written (files_of m made) 0 (record { name = m.elf; bytes = made.elf.items }) old old first refl tt kept
+    (λ held told. written held told ∙ ap Some same) (none_written (files_of m made) old)
 
-order_whole : (c : Command) (made : Made) (old first second : State) (order : List ℕ) → c.elf ≢ c.order → order ≡ made.order.items
-    → store.KeepsOthers c.order first.holds second.holds → WhereTold second (λ held. held c.order ≡ Some order)
-    → Becomes old first (LeftBy (files_of c made) 1) → Becomes old second (LeftBy (files_of c made) 2)
-order_whole c made old first second order apart same kept written left =
-    one_written (files_of c made) 1 (record { name = c.order; bytes = made.order.items }) old first second refl (apart, tt) kept
+order_whole : (m : Making) (made : Made) (old first second : State) (order : List ℕ) → m.elf ≢ m.order → order ≡ made.order.items
+    → store.KeepsOthers m.order first.holds second.holds → WhereTold second (λ held. held m.order ≡ Some order)
+    → Becomes old first (LeftBy (files_of m made) 1) → Becomes old second (LeftBy (files_of m made) 2)
+order_whole m made old first second order apart same kept written left =
+    one_written (files_of m made) 1 (record { name = m.order; bytes = made.order.items }) old first second refl (apart, tt) kept
     (λ held told. written held told ∙ ap Some same) left
 
 -- the second write stopped it
-pub stopped_at_order : (c : Command) (made : Made) (old first second : State) (elf : List ℕ) (stop : Stop) → c.elf ≢ c.order
-    → elf ≡ made.elf.items → store.KeepsOthers c.elf old.holds first.holds → old.write_faults ≤ first.write_faults
-    → WhereTold first (λ held. held c.elf ≡ Some elf)
-    → store.KeepsOthers c.order first.holds second.holds → IsStoppedWrite c.order first second stop → StopsLate c made old second stop
-stopped_at_order c made old first second elf stop apart same kept up written last_kept why =
-    stopped_late c made 1 (record { name = c.order; bytes = made.order.items }) old first second stop refl (apart, tt) last_kept up why
-    (elf_whole c made old first elf same kept written)
+pub stopped_at_order : (m : Making) (made : Made) (old first second : State) (elf : List ℕ) (ending : Ending) → m.elf ≢ m.order
+    → elf ≡ made.elf.items → store.KeepsOthers m.elf old.holds first.holds → old.write_faults ≤ first.write_faults
+    → WhereTold first (λ held. held m.elf ≡ Some elf)
+    → store.KeepsOthers m.order first.holds second.holds → IsStoppedWrite m.order first second ending → StopsLate (files_of m made) old second ending
+stopped_at_order m made old first second elf ending apart same kept up written last_kept why =
+    stopped_late (files_of m made) 1 (record { name = m.order; bytes = made.order.items }) old first second ending refl (apart, tt) last_kept up why
+    (elf_whole m made old first elf same kept written)
 
 -- the third one
-pub stopped_at_trace : (c : Command) (made : Made) (old first second third : State) (elf order : List ℕ) (stop : Stop)
-    → c.elf ≢ c.order → c.elf ≢ c.trace → c.order ≢ c.trace
-    → elf ≡ made.elf.items → store.KeepsOthers c.elf old.holds first.holds → old.write_faults ≤ first.write_faults
-    → WhereTold first (λ held. held c.elf ≡ Some elf)
-    → order ≡ made.order.items → store.KeepsOthers c.order first.holds second.holds → first.write_faults ≤ second.write_faults
-    → WhereTold second (λ held. held c.order ≡ Some order)
-    → store.KeepsOthers c.trace second.holds third.holds → IsStoppedWrite c.trace second third stop → StopsLate c made old third stop
-stopped_at_trace c made old first second third elf order stop elf_order elf_trace order_trace same kept up written next_same next_kept next_up next_written last_kept why =
-    stopped_late c made 2 (record { name = c.trace; bytes = made.trace.items }) old second third stop refl (elf_trace, (order_trace, tt)) last_kept
+pub stopped_at_trace : (m : Making) (made : Made) (old first second third : State) (elf order : List ℕ) (ending : Ending)
+    → m.elf ≢ m.order → m.elf ≢ m.trace → m.order ≢ m.trace
+    → elf ≡ made.elf.items → store.KeepsOthers m.elf old.holds first.holds → old.write_faults ≤ first.write_faults
+    → WhereTold first (λ held. held m.elf ≡ Some elf)
+    → order ≡ made.order.items → store.KeepsOthers m.order first.holds second.holds → first.write_faults ≤ second.write_faults
+    → WhereTold second (λ held. held m.order ≡ Some order)
+    → store.KeepsOthers m.trace second.holds third.holds → IsStoppedWrite m.trace second third ending → StopsLate (files_of m made) old third ending
+stopped_at_trace m made old first second third elf order ending elf_order elf_trace order_trace same kept up written next_same next_kept next_up next_written last_kept why =
+    stopped_late (files_of m made) 2 (record { name = m.trace; bytes = made.trace.items }) old second third ending refl (elf_trace, (order_trace, tt)) last_kept
     (omega (arith, up, next_up)) why
-    (order_whole c made old first second order elf_order next_same next_kept next_written (elf_whole c made old first elf same kept written))
+    (order_whole m made old first second order elf_order next_same next_kept next_written (elf_whole m made old first elf same kept written))
 
 -- of an error that is given on
 pub err_of : {A E : Type 0} (P : E → Type 0) (result : Result A E) (stop : E) → IsErrAnd result (λ s. s ≡ stop) → P stop → IfErr result P
 err_of P (Ok a) stop is p = tt
 err_of P (Err e) stop is p = subst P (sym is) p
 
--- of an error that is one of another fact
+-- of a value that is one of another fact, and of an error
+pub ok_more : {A E : Type 0} (P Q : A → Type 0) (result : Result A E) → ((a : A) → P a → Q a) → IfOk result P → IfOk result Q
+ok_more P Q (Ok a) f p = f a p
+ok_more P Q (Err e) f p = tt
+
 pub err_more : {A E : Type 0} (P Q : E → Type 0) (result : Result A E) → ((e : E) → P e → Q e) → IfErr result P → IfErr result Q
 err_more P Q (Ok a) f p = tt
 err_more P Q (Err e) f p = f e p
 
--- every name but those of the files holds what it held
-pub others_left : (c : Command) (elf order trace : List ℕ) (n : ℕ) (before now : Held) → LeftBy (outputs c elf order trace) n before now
-    → KeepsOthers c before now
-others_left c elf order trace n before now left = λ name e o t.
-    left.others name (all_taken (λ f. name ≢ f.name) (suc n) (outputs c elf order trace) (e, (o, (t, tt))))
+-- a name that is none of the files' is none of the first of them
+pub others_apart : (name : List ℕ) (n : ℕ) (files : List Output) → AllByRecursion (λ other. name ≢ other) (map (λ f. f.name) files)
+    → AllByRecursion (λ f. name ≢ f.name) (take n files)
+others_apart name zero files h = tt
+others_apart name (suc n) [] h = tt
+others_apart name (suc n) (f ∷ fs) h = (h.0, others_apart name n fs h.1)

@@ -1,8 +1,7 @@
+pub mod Digits
 pub mod Ending
 pub mod Examples
-pub mod Leaving
-pub mod Reading
-pub mod Refusing
-pub mod Digits
-pub mod Names
 pub mod Generating
+pub mod Leaving
+pub mod Names
+pub mod Reading

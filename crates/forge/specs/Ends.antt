@@ -1,68 +1,105 @@
--- How a command ends: its status, what it leaves in the store, and what it prints.
-use Rattle.std.specs.Prelude.{ℕ, suc, ◌≡◌, ◌≢◌, ◌<◌, ◌≤◌, ◌⊎◌, List, [], ◌∷◌, ◌++◌, length, take, codes, Option, Some, None, IfSome, IsSomeAnd, slice_get}
-use Rattle.std.specs.List.{AllByRecursion, Contains}
+-- How a command ends: why, what it leaves in the store, its status, and what it prints.
+use Rattle.std.specs.Prelude.{ℕ, suc, ◌≡◌, ◌≢◌, ◌<◌, ◌⊎◌, List, [], ◌∷◌, ◌++◌, length, take, codes, nat_lt, Option, Some, None, IfSome, IsSomeAnd, MatchOption, slice_get, if◌then◌else◌}
+use Rattle.std.specs.Fmt.{decimal}
+use Rattle.std.specs.List.{AllByRecursion}
+use Rattle.std.specs.Option.{option_or}
 use Rattle.choice_tree.specs.Forest.{Forest, forest_in}
 use Rattle.region_plan.specs.Plan.{Work, hart_count}
 use Rattle.trace_text.specs.Lines.{Line}
 use Rattle.job_read.specs.Accepted.{job_in}
 use Rattle.store_face.specs.State.{Held, State, Rose}
-use Rattle.forge.specs.Words.{Command, command_of}
+use Rattle.forge.specs.Words.{Command, Making, command_of, make_serial}
 use Rattle.forge.specs.Generated.{IsRunOf, counts_text, drawn}
 
-abbrev pub usage : List ℕ
-usage = codes "usage: make|make-serial JOB TREES SEED ELF ORDER TRACE; replay ELF ORDER TRACE; big N JOB TREES; check JOB TREES\n"
+-- ---- endings, their statuses and what is printed
 
--- the most bytes that an input file has
-abbrev pub most_bytes : ℕ
-most_bytes = 4194304
+pub data Ending : Type 0 where
+  -- the files of a run of so many harts are written, whose lines these are
+  made : ℕ → List Line → Ending
+  -- the words are no command's
+  usage : Ending
+  -- the file of this name can't be read, or can't be written
+  unread : List ℕ → Ending
+  unwritten : List ℕ → Ending
+  -- what the file of this name holds isn't accepted, for this reason
+  refused : List ℕ → List ℕ → Ending
+  -- the file of this name has more bytes than so many
+  too_long : List ℕ → ℕ → Ending
+  out_of_memory : Ending
 
--- the file is there and short enough, and spells the value
-abbrev pub Spells : {A : Type 0} → (List ℕ → Option A) → Held → List ℕ → A → Type 0
-Spells reading held name value = IsSomeAnd (held name) (λ bytes. (length bytes ≤ most_bytes) × (reading bytes ≡ Some value))
+abbrev pub status_of : Ending → ℕ
+status_of (made harts lines) = 0
+status_of usage = 3
+status_of (unread name) = 4
+status_of (unwritten name) = 5
+status_of (refused name reason) = 6
+status_of (too_long name most) = 7
+status_of out_of_memory = 8
 
--- the file is there, and too long
-abbrev pub IsTooLong : Held → List ℕ → Type 0
-IsTooLong held name = IsSomeAnd (held name) (λ bytes. most_bytes < length bytes)
+abbrev pub printed : Ending → List ℕ
+printed (made harts lines) = counts_text harts lines
+printed usage = codes "usage: make|make-serial JOB TREES SEED ELF ORDER TRACE; replay ELF ORDER TRACE; big N JOB TREES; check JOB TREES\n"
+printed (unread name) = codes "cannot read " ++ name ++ codes "\n"
+printed (unwritten name) = codes "cannot write " ++ name ++ codes "\n"
+printed (refused name reason) = name ++ codes ": " ++ reason ++ codes "\n"
+printed (too_long name most) = name ++ codes ": longer than " ++ decimal most ++ codes " bytes\n"
+printed out_of_memory = []
 
--- the file is there and short enough, and spells no value
-abbrev pub SpellsNothing : {A : Type 0} → (List ℕ → Option A) → Held → List ℕ → Type 0
-SpellsNothing reading held name = IsSomeAnd (held name) (λ bytes. (length bytes ≤ most_bytes) × (reading bytes ≡ None))
+-- ---- what a command reads and writes
+
+-- the names of the files that it reads and of those that it writes, each in its order
+abbrev pub inputs : Command → List (List ℕ)
+inputs (make_serial m) = m.job ∷ m.trees ∷ []
+
+abbrev pub outputs : Command → List (List ℕ)
+outputs (make_serial m) = m.elf ∷ m.order ∷ m.trace ∷ []
+
+-- the most bytes that a file has which it reads
+abbrev pub most_bytes : Command → ℕ
+most_bytes (make_serial m) = 4194304
+
+-- the first of the files that is too long
+abbrev pub length_fault : ℕ → List (List ℕ) → List (List ℕ) → Option Ending
+length_fault most [] contents = None
+length_fault most (name ∷ names) [] = None
+length_fault most (name ∷ names) (content ∷ contents) =
+    if nat_lt most (length content) then Some (too_long name most) else length_fault most names contents
+
+-- what isn't accepted yet
+abbrev pub unless_read : {A : Type 0} → List ℕ → Option A → Option Ending
+unless_read name None = Some (refused name (codes "not built yet"))
+unless_read name (Some value) = None
+
+-- the first of the files whose content isn't accepted
+abbrev pub form_fault : Command → List (List ℕ) → Option Ending
+form_fault (make_serial m) (job ∷ trees ∷ []) = option_or (unless_read m.job (job_in job)) (unless_read m.trees (forest_in trees))
+form_fault c contents = None
+
+-- What these contents of its inputs end a command with, if anything: lengths come before forms.
+abbrev pub input_fault : Command → List (List ℕ) → Option Ending
+input_fault c contents = option_or (length_fault (most_bytes c) (inputs c) contents) (form_fault c contents)
+
+-- ---- what it leaves
+
+-- the names hold these contents, each its own
+abbrev pub AreHeld : Held → List (List ℕ) → List (List ℕ) → Type 0
+AreHeld held [] [] = Unit {0}
+AreHeld held [] (content ∷ contents) = ⊥
+AreHeld held (name ∷ names) [] = ⊥
+AreHeld held (name ∷ names) (content ∷ contents) = (held name ≡ Some content) × AreHeld held names contents
 
 -- the file is there
 abbrev pub IsThere : Held → List ℕ → Type 0
-IsThere held name = IsSomeAnd (held name) (λ bytes. Unit {0})
+IsThere held name = IsSomeAnd (held name) (λ content. Unit {0})
 
--- the file is there, and short enough
-abbrev pub IsShort : Held → List ℕ → Type 0
-IsShort held name = IsSomeAnd (held name) (λ bytes. length bytes ≤ most_bytes)
-
--- Not built yet: the name is that of the first of the two files that isn't accepted, lengths before forms.
-abbrev pub refusal : List ℕ → List ℕ
-refusal name = name ++ codes ": not built yet\n"
-
-abbrev pub IsRefused : Command → Held → List ℕ → Type 0
-IsRefused c before name =
-    (IsTooLong before c.job × IsThere before c.trees × (name ≡ c.job))
-    ⊎ (IsShort before c.job × IsTooLong before c.trees × (name ≡ c.trees))
-    ⊎ (SpellsNothing job_in before c.job × IsShort before c.trees × (name ≡ c.job))
-    ⊎ ((work : Work) × Spells job_in before c.job work × SpellsNothing forest_in before c.trees × (name ≡ c.trees))
-
--- both files are accepted
-abbrev pub IsAccepted : Command → Held → Type 0
-IsAccepted c before = ((work : Work) × Spells job_in before c.job work) × ((trees : Forest) × Spells forest_in before c.trees trees)
+-- the fact holds of what the inputs held, as far as the store tells it
+abbrev pub OfInputs : Command → State → (List (List ℕ) → Type 0) → Type 0
+OfInputs c old P = (contents : List (List ℕ)) × IfSome old.holds (λ before. AreHeld before (inputs c) contents) × P contents
 
 -- a file to be written: its name, and the bytes that it is to hold
 pub record Output : Type 0 where
   pub name : List ℕ
   pub bytes : List ℕ
-
--- the files that a command reads, and those that it writes, each in its order
-abbrev pub inputs : Command → List (List ℕ)
-inputs c = c.job ∷ c.trees ∷ []
-
-abbrev pub outputs : Command → List ℕ → List ℕ → List ℕ → List Output
-outputs c elf order trace =
-    record { name = c.elf; bytes = elf } ∷ record { name = c.order; bytes = order } ∷ record { name = c.trace; bytes = trace } ∷ []
 
 -- How far files have been written, one after another: so many are whole, the one behind them may hold anything, and
 -- every other name holds what it held.
@@ -80,78 +117,98 @@ Told old new P = IfSome old.holds (λ before. IsSomeAnd new.holds (λ now. P bef
 
 -- every name but those that the command writes holds what it held
 abbrev pub KeepsOthers : Command → Held → Held → Type 0
-KeepsOthers c before now = (name : List ℕ) → name ≢ c.elf → name ≢ c.order → name ≢ c.trace → now name ≡ before name
+KeepsOthers c before now = (name : List ℕ) → AllByRecursion (λ output. name ≢ output) (outputs c) → now name ≡ before name
 
--- A run of the command's job was made, and so many of its three files are whole. What the store held and holds is said
--- where it tells it.
-pub record LeavesRun (c : Command) (old new : State) (count : ℕ) : Type 0 where
+-- The three files are those of a run, under the drawn schedule, of the job and the trees that these contents spell.
+pub record IsRunFrom (m : Making) (contents : List (List ℕ)) (files : List Output) (harts : ℕ) (lines : List Line) : Type 0 where
+  pub job : List ℕ
+  pub trees : List ℕ
+  pub contents_are : contents ≡ job ∷ trees ∷ []
   pub work : Work
-  pub trees : Forest
+  pub forest : Forest
+  pub job_read : job_in job ≡ Some work
+  pub trees_read : forest_in trees ≡ Some forest
+  pub harts_are : harts ≡ hart_count work
   pub elf : List ℕ
   pub order : List ℕ
   pub trace : List ℕ
-  pub lines : List Line
-  -- job and trees stood in the two files at entry
-  pub job_read : IfSome old.holds (λ before. Spells job_in before c.job work)
-  pub trees_read : IfSome old.holds (λ before. Spells forest_in before c.trees trees)
-  -- the three files are a run of them under the drawn schedule
-  pub run : IsRunOf work trees c.seed drawn elf order trace lines
-  -- they were written in this order, and so far
-  pub left : Told old new (LeftBy (outputs c elf order trace) count)
+  pub run : IsRunOf work forest m.seed drawn elf order trace lines
+  pub files_are : files ≡ record { name = m.elf; bytes = elf } ∷ record { name = m.order; bytes = order } ∷ record { name = m.trace; bytes = trace } ∷ []
 
--- Everything is well: all three files are whole, and the line that is printed tells what their trace counts.
-pub record Succeeds (c : Command) (old new : State) (out : List ℕ) : Type 0 where
-  pub made : LeavesRun c old new 3
-  pub printed : out ≡ counts_text (hart_count made.work) made.lines
+-- what the command makes of these contents
+abbrev pub Makes : Command → List (List ℕ) → List Output → ℕ → List Line → Type 0
+Makes (make_serial m) contents files harts lines = IsRunFrom m contents files harts lines
 
--- A read failed in this call: of one of the files that the command reads, whose name is the last one that failed. The
--- files before it were there.
-pub record ReadFails (c : Command) (old new : State) : Type 0 where
+-- Of the files that the command makes of its inputs so many are whole.
+pub record Leaves (c : Command) (old new : State) (count harts : ℕ) (lines : List Line) : Type 0 where
+  pub contents : List (List ℕ)
+  pub held : IfSome old.holds (λ before. AreHeld before (inputs c) contents)
+  pub accepted : input_fault c contents ≡ None
+  pub files : List Output
+  pub made : Makes c contents files harts lines
+  pub left : Told old new (LeftBy files count)
+
+-- ---- why it ends so
+
+-- A read failed in this call: of this file, which the command reads. Those before it were there.
+pub record ReadFails (c : Command) (old new : State) (name : List ℕ) : Type 0 where
   pub rose : Rose old.read_faults new.read_faults
+  pub last : new.last ≡ name
   pub number : ℕ
-  pub named : slice_get (inputs c) number ≡ Some new.last
+  pub named : slice_get (inputs c) number ≡ Some name
   pub there : IfSome old.holds (λ before. AllByRecursion (IsThere before) (take number (inputs c)))
+  pub unchanged : Unchanged old new
 
--- A write failed in this call: of one of the files that the command writes, whose name is the last one that failed. The
--- files before it are whole, and those behind it hold what they held.
-pub record WriteFails (c : Command) (old new : State) : Type 0 where
+-- A write failed in this call: of this file, which the command writes. Those before it are whole, and those behind it hold what they held.
+pub record WriteFails (c : Command) (old new : State) (name : List ℕ) : Type 0 where
   pub rose : Rose old.write_faults new.write_faults
+  pub last : new.last ≡ name
   pub number : ℕ
-  pub made : LeavesRun c old new number
-  pub named : IsSomeAnd (slice_get (outputs c made.elf made.order made.trace) number) (λ file. new.last ≡ file.name)
+  pub named : slice_get (outputs c) number ≡ Some name
+  pub harts : ℕ
+  pub lines : List Line
+  pub left : Leaves c old new number harts lines
 
 -- It stopped within a write: the files before that one are whole, and those behind it hold what they held.
 pub record StopsWriting (c : Command) (old new : State) : Type 0 where
   pub number : ℕ
-  pub within : number < 3
-  pub made : LeavesRun c old new number
+  pub within : number < length (outputs c)
+  pub harts : ℕ
+  pub lines : List Line
+  pub left : Leaves c old new number harts lines
 
--- How the words end: each status with its cause, and what it leaves.
+-- Each ending with its cause, and what it leaves.
+abbrev pub Causes : Command → State → State → Ending → Type 0
+Causes c old new (made harts lines) = Leaves c old new (length (outputs c)) harts lines
+Causes c old new usage = ⊥
+Causes c old new (unread name) = ReadFails c old new name
+Causes c old new (unwritten name) = WriteFails c old new name
+Causes c old new (refused name reason) = Unchanged old new × OfInputs c old (λ contents. input_fault c contents ≡ Some (refused name reason))
+Causes c old new (too_long name most) = Unchanged old new × OfInputs c old (λ contents. input_fault c contents ≡ Some (too_long name most))
+-- before the first write, or within a write
+Causes c old new out_of_memory = Unchanged old new ⊎ StopsWriting c old new
+
+-- where the words are no command's, the store is left alone
+abbrev pub NoCommand : State → State → Ending → Type 0
+NoCommand old new ending = (new ≡ old) × ((ending ≡ usage) ⊎ (ending ≡ out_of_memory))
+
+-- What inputs that are there end a command with where no read failed: their fault, if they have one; else it made what it was to make, or
+-- a write failed. Memory may run out in any case.
+abbrev pub Serves : Command → State → State → List (List ℕ) → Ending → Type 0
+Serves c old new contents ending =
+    MatchOption (input_fault c contents)
+    (((harts : ℕ) × (lines : List Line) × (ending ≡ made harts lines)) ⊎ Rose old.write_faults new.write_faults ⊎ (ending ≡ out_of_memory))
+    (λ fault. (ending ≡ fault) ⊎ (ending ≡ out_of_memory))
+
+-- How the words end.
 pub record Ends (words : List (List ℕ)) (old new : State) (status : ℕ) (out : List ℕ) : Type 0 where
-  -- there is no other status
-  pub statuses : (status ≡ 0) ⊎ (status ≡ 3) ⊎ (status ≡ 4) ⊎ (status ≡ 5) ⊎ (status ≡ 6) ⊎ (status ≡ 8)
-  -- 0: the three files are a run of the job
-  pub well : status ≡ 0 → IsSomeAnd (command_of words) (λ c. Succeeds c old new out)
-  -- 3: the words are no command's, and then the store is left alone, and it is 3, or 8 for want of memory
-  pub usage : status ≡ 3 → (command_of words ≡ None) × (out ≡ usage)
-  pub no_command : command_of words ≡ None → (new ≡ old) × ((status ≡ 3) ⊎ (status ≡ 8))
-  -- 4: a read failed, and its name is printed
-  pub unread : status ≡ 4 → IsSomeAnd (command_of words) (λ c. ReadFails c old new × (out ≡ codes "cannot read " ++ new.last ++ codes "\n"))
-  -- 5: a write failed, and its name is printed
-  pub unwritten : status ≡ 5 → IsSomeAnd (command_of words) (λ c. WriteFails c old new × (out ≡ codes "cannot write " ++ new.last ++ codes "\n"))
-  -- 6: a file that the command reads isn't accepted, and its name is printed
-  pub refused : status ≡ 6 → IsSomeAnd (command_of words) (λ c.
-      (name : List ℕ) × Contains (inputs c) name × IfSome old.holds (λ before. IsRefused c before name) × (out ≡ refusal name))
-  -- 8 prints nothing. It comes before the first write, or within a write.
-  pub silent : status ≡ 8 → out ≡ []
-  pub short : status ≡ 8 → Unchanged old new ⊎ IsSomeAnd (command_of words) (λ c. StopsWriting c old new)
-  -- nothing was written but where the run came to its writes
-  pub unchanged : (status ≡ 3) ⊎ (status ≡ 4) ⊎ (status ≡ 6) → Unchanged old new
+  pub ending : Ending
+  pub status_is : status ≡ status_of ending
+  pub printed_is : out ≡ printed ending
+  -- why, and what that leaves
+  pub cause : MatchOption (command_of words) (NoCommand old new ending) (λ c. Causes c old new ending)
   -- whatever comes, every name but those that the command writes holds what it held
-  pub others : (c : Command) → command_of words ≡ Some c → Told old new (KeepsOthers c)
-  -- accepted files end with success where no read and no write failed, but for want of memory
-  pub complete : (c : Command) → command_of words ≡ Some c → ¬ Rose old.read_faults new.read_faults → ¬ Rose old.write_faults new.write_faults
-      → IfSome old.holds (λ before. IsAccepted c before → (status ≡ 0) ⊎ (status ≡ 8))
-  -- a file that isn't accepted ends with its refusal where no read failed, but for want of memory
-  pub refusing : (c : Command) → command_of words ≡ Some c → ¬ Rose old.read_faults new.read_faults
-      → IfSome old.holds (λ before. (name : List ℕ) → IsRefused c before name → ((status ≡ 6) × (out ≡ refusal name)) ⊎ (status ≡ 8))
+  pub others : IfSome (command_of words) (λ c. Told old new (KeepsOthers c))
+  -- inputs that are there end it as they should, where no read failed
+  pub serves : IfSome (command_of words) (λ c. ¬ Rose old.read_faults new.read_faults
+      → IfSome old.holds (λ before. (contents : List (List ℕ)) → AreHeld before (inputs c) contents → Serves c old new contents ending))

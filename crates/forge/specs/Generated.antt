@@ -1,5 +1,5 @@
 -- What three files have to be to be made from a job, its trees, a seed and a schedule. Nothing here speaks of how they were made.
-use Rattle.std.specs.Prelude.{ℕ, ◌≡◌, ◌+◌, List, [], ◌++◌, codes, Bool, true, false, Some}
+use Rattle.std.specs.Prelude.{ℕ, ◌≡◌, List, [], ◌++◌, codes, Bool, true, false, Some}
 use Rattle.std.specs.List.{count_by}
 use Rattle.std.specs.Fmt.{decimal}
 use Rattle.elf_file.specs.Loading.{load}

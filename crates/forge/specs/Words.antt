@@ -1,17 +1,20 @@
 -- The words of a command line, and the command that they are.
-use Rattle.std.specs.Prelude.{ℕ, ◌*◌, ◌+◌, ◌-◌, ◌^◌, List, [], ◌∷◌, length, codes, Bool, true, false, not, nat_lt, nat_le, ◌==◌, ◌&&◌, Option, Some, None, if◌then◌else◌}
+use Rattle.std.specs.Prelude.{ℕ, ◌*◌, ◌+◌, ◌-◌, ◌^◌, List, [], ◌∷◌, length, codes, Bool, true, false, not, nat_lt, nat_le, ◌==◌, ◌&&◌, Option, Some, None, option_map, if◌then◌else◌}
 use Rattle.std.specs.List.{list_all, list_any}
 use Rattle.std.specs.Str.{bytes_eq}
 use Rattle.rv_fields.specs.Attempt.{◌>>=◌}
 
--- make-serial with its files and its seed
-pub record Command : Type 0 where
+-- the files and the seed of make-serial
+pub record Making : Type 0 where
   pub job : List ℕ
   pub trees : List ℕ
   pub seed : ℕ
   pub elf : List ℕ
   pub order : List ℕ
   pub trace : List ℕ
+
+pub data Command : Type 0 where
+  make_serial : Making → Command
 
 -- the word is an option, which no command takes
 abbrev pub is_option : List ℕ → Bool
@@ -22,6 +25,10 @@ is_option (b ∷ bs) = b == 0x2d
 abbrev pub are_different : List (List ℕ) → Bool
 are_different [] = true
 are_different (w ∷ ws) = not (list_any (bytes_eq w) ws) && are_different ws
+
+-- the words name different files, and none is an option
+abbrev pub are_files : List (List ℕ) → Bool
+are_files words = not (list_any is_option words) && are_different words
 
 -- the byte is a decimal digit
 abbrev pub is_digit : ℕ → Bool
@@ -38,19 +45,16 @@ seed_of word =
     if nat_le 1 (length word) && nat_le (length word) 20 && list_all is_digit word && nat_lt (value_behind 0 word) (2 ^ 64)
     then Some (value_behind 0 word) else None
 
--- make-serial JOB TREES SEED ELF ORDER TRACE, without options and with different files
-abbrev pub command_of : List (List ℕ) → Option Command
-command_of (name ∷ job ∷ trees ∷ seed_word ∷ elf ∷ order ∷ trace ∷ []) = do
+-- JOB TREES SEED ELF ORDER TRACE
+abbrev pub making_of : List (List ℕ) → Option Making
+making_of (job ∷ trees ∷ seed_word ∷ elf ∷ order ∷ trace ∷ []) = do
   seed ← seed_of seed_word
-  if bytes_eq name (codes "make-serial") && not (list_any is_option (job ∷ trees ∷ elf ∷ order ∷ trace ∷ []))
-      && are_different (job ∷ trees ∷ elf ∷ order ∷ trace ∷ [])
+  if are_files (job ∷ trees ∷ elf ∷ order ∷ trace ∷ [])
       then Some (record { job = job; trees = trees; seed = seed; elf = elf; order = order; trace = trace })
       else None
+making_of words = None
+
+-- the command's name, and what it takes
+abbrev pub command_of : List (List ℕ) → Option Command
 command_of [] = None
-command_of (a ∷ []) = None
-command_of (a ∷ b ∷ []) = None
-command_of (a ∷ b ∷ c ∷ []) = None
-command_of (a ∷ b ∷ c ∷ d ∷ []) = None
-command_of (a ∷ b ∷ c ∷ d ∷ e ∷ []) = None
-command_of (a ∷ b ∷ c ∷ d ∷ e ∷ f ∷ []) = None
-command_of (a ∷ b ∷ c ∷ d ∷ e ∷ f ∷ g ∷ h ∷ rest) = None
+command_of (name ∷ words) = if bytes_eq name (codes "make-serial") then option_map make_serial (making_of words) else None

@@ -11,6 +11,7 @@ mod stop;
 #[cfg(test)]
 mod tests;
 mod top;
+mod words;
 
 pub use made::{Counts, Made};
 pub use making::{make_serial, make_with};

@@ -1,12 +1,33 @@
 ghost use Rattle.std.specs.Prelude.{◌≡◌, Some};
+ghost use Rattle.forge.specs.declared.stop.Reason.TheVariants as reasons;
 ghost use Rattle.forge.specs.declared.stop.Stop.TheVariants.{Memory};
 
 use choice_tree::InputFault;
 use rv_fields::NoMemory;
+use std::alloc::AllocFailed;
 use std::fmt;
 use store_face::StoreFault;
 
-/// Why a command ends without its files.
+/// Why a file isn't accepted.
+#[derive(Clone, Copy, Debug, PartialEq, Eq)]
+pub(crate) enum Reason {
+    /// It holds what this program can't do yet, or nothing that it knows.
+    NotBuilt,
+}
+
+impl fmt::Display for Reason {
+    ghost use Rattle.forge.specs.Stops.{reason_body};
+
+    ghost output = { λ reason. Some (reason_body reason) };
+
+    fn fmt<W: fmt::Write>(&self, f: &mut fmt::Formatter<W>) -> fmt::Result {
+        f.write_str(match self {
+            Reason::NotBuilt => "not built yet",
+        })
+    }
+}
+
+/// Why a command ends without success.
 #[derive(Clone, Copy, Debug, PartialEq, Eq)]
 pub(crate) enum Stop<'a> {
     /// The words are no command's.
@@ -15,24 +36,28 @@ pub(crate) enum Stop<'a> {
     Unread(&'a str),
     /// The file of the name can't be written.
     Unwritten(&'a str),
-    /// The file of the name isn't accepted.
-    NotBuilt(&'a str),
+    /// What the file of the name holds isn't accepted.
+    Refused { name: &'a str, reason: Reason },
+    /// The file of the name has more bytes than so many.
+    TooLong { name: &'a str, most: usize },
     /// Want of memory.
     Memory,
 }
 
 impl<'a> Stop<'a> {
-    ghost use Rattle.forge.specs.Stops.{status_of};
+    ghost use Rattle.forge.specs.Ends.{status_of};
+    ghost use Rattle.forge.specs.Stops.{ending_of};
 
     /// The exit status.
     pub(crate) fn status(self) -> u8
-        ensures { result ≡ status_of self.entry }
+        ensures { result ≡ status_of (ending_of self.entry) }
     {
         match self {
             Stop::Usage => 3,
             Stop::Unread(_) => 4,
             Stop::Unwritten(_) => 5,
-            Stop::NotBuilt(_) => 6,
+            Stop::Refused { .. } => 6,
+            Stop::TooLong { .. } => 7,
             Stop::Memory => 8,
         }
     }
@@ -61,11 +86,14 @@ impl<'a> Stop<'a> {
 
     /// At the content of the file of the name.
     pub(crate) fn at_content(name: &'a str, fault: InputFault) -> Stop<'a>
-        ensures not_built { fault ≡ InputFault.NotBuilt → result ≡ Stop.NotBuilt name.entry }
+        ensures not_built { fault ≡ InputFault.NotBuilt → result ≡ Stop.Refused name.entry reasons.NotBuilt }
         ensures memory { fault ≡ InputFault.Memory → result ≡ Stop.Memory }
     {
         match fault {
-            InputFault::NotBuilt => Stop::NotBuilt(name),
+            InputFault::NotBuilt => Stop::Refused {
+                name,
+                reason: Reason::NotBuilt,
+            },
             InputFault::Memory => Stop::Memory,
         }
     }
@@ -75,6 +103,14 @@ impl From<NoMemory> for Stop<'_> {
     ghost from_gives = { λ _ stop. stop ≡ Memory };
 
     fn from(_: NoMemory) -> Self {
+        Stop::Memory
+    }
+}
+
+impl<T: Drop> From<AllocFailed<T>> for Stop<'_> {
+    ghost from_gives = { λ _ stop. stop ≡ Memory };
+
+    fn from(_: AllocFailed<T>) -> Self {
         Stop::Memory
     }
 }
@@ -93,7 +129,8 @@ impl fmt::Display for Stop<'_> {
             ),
             Stop::Unread(name) => write!(f, "cannot read {name}"),
             Stop::Unwritten(name) => write!(f, "cannot write {name}"),
-            Stop::NotBuilt(name) => write!(f, "{name}: not built yet"),
+            Stop::Refused { name, reason } => write!(f, "{name}: {reason}"),
+            Stop::TooLong { name, most } => write!(f, "{name}: longer than {most} bytes"),
             Stop::Memory => write!(f, "out of memory"),
         }
     }

@@ -104,6 +104,21 @@ fn assert_refused(
     assert_ends(rt, alloc, &WORDS, &mut store, 6, &line)
 }
 
+/// Asserts that of the two files the one of the name is too long, and that nothing is written.
+fn assert_too_long(
+    rt: &impl Abort,
+    alloc: Global,
+    job: &[u8],
+    trees: &[u8],
+    name: &str,
+) -> Result<(), Fail> {
+    let mut store = holding(alloc, job, trees)?;
+    let line = format!(in alloc; "{name}: longer than 4194304 bytes\n")?;
+    assert_ends(rt, alloc, &WORDS, &mut store, 7, &line)?;
+    assert_eq!(rt; store.calls, 2);
+    Ok(())
+}
+
 /// Asserts that the file of the name holds the bytes.
 fn assert_holds(rt: &impl Abort, store: &MemStore, name: &str, bytes: &[u8]) -> Result<(), Fail> {
     assert!(rt; store.files.get(name).ok_or("no file")? == bytes, "{name}");
@@ -190,11 +205,23 @@ fn what_is_not_built_is_refused(rt: HostRuntime) -> Result<(), Fail> {
 }
 
 #[test]
-fn a_file_that_is_too_long_is_refused(rt: HostRuntime) -> Result<(), Fail> {
+fn a_file_that_is_too_long_is_named(rt: HostRuntime) -> Result<(), Fail> {
     let long = vec![in rt.alloc(); b' '; 4_194_305]?;
-    assert_refused(&rt, rt.alloc(), &long, TREES, "j")?;
+    assert_too_long(&rt, rt.alloc(), &long, TREES, "j")?;
+    assert_too_long(&rt, rt.alloc(), &long, &long, "j")?;
     // Lengths come before forms.
-    assert_refused(&rt, rt.alloc(), MODE_S, &long, "t")
+    assert_too_long(&rt, rt.alloc(), MODE_S, &long, "t")
+}
+
+/// Spaces behind it make a job as long as a file may be.
+#[test]
+fn a_job_of_the_greatest_length_is_made(rt: HostRuntime) -> Result<(), Fail> {
+    let mut long = JOB.to_vec(rt.alloc())?;
+    let spaces = vec![in rt.alloc(); b' '; 4_194_304]?;
+    long.extend_from_slice(spaces.get(JOB.len()..).ok_or("a longer job")?)?;
+    assert_eq!(rt; long.len(), 4_194_304);
+    assert_made(&rt, rt.alloc(), &long, "7", LINE)?;
+    Ok(())
 }
 
 #[test]

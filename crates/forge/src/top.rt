@@ -1,8 +1,8 @@
-ghost use Rattle.std.specs.Prelude.{◌≡◌, ◌⊎◌, [], map, string_bytes};
-ghost use Rattle.forge.specs.Ends.{Ends};
-ghost use Rattle.forge.specs.Stops.{status_of, stop_text, EndsBy};
+ghost use Rattle.std.specs.Prelude.{◌⊎◌, map, string_bytes};
+ghost use Rattle.forge.specs.Ends.{out_of_memory, Ends};
+ghost use Rattle.forge.specs.Stops.{ending_of, IsTold, IsCause, EndsBy};
 
-use crate::command::MakeSerial;
+use crate::command::Command;
 use crate::line::write_line;
 use crate::stop::Stop;
 use std::alloc::Global;
@@ -18,6 +18,7 @@ use store_face::Store;
 /// | 4 | a file can't be read |
 /// | 5 | a file can't be written |
 /// | 6 | an input file isn't accepted |
+/// | 7 | an input file is too long |
 /// | 8 | want of memory; nothing is printed |
 pub fn plain_top<S: Store>(alloc: Global, words: &[String], store: &mut S, out: &mut Vec<u8>) -> u8
     ensures { Ends (map string_bytes words.now) (S.state store.old) (S.state store.new) result out.new.items }
@@ -35,16 +36,16 @@ fn run<'a, S: Store>(
     store: &mut S,
     out: &mut Vec<u8>,
 ) -> Result<(), Stop<'a>>
-    ensures { EndsBy (map string_bytes words.entry.now) (S.state store.old) (S.state store.new) result out.new.items }
+    ensures { EndsBy (IsCause (map string_bytes words.entry.now) (S.state store.old) (S.state store.new)) result out.new.items }
 {
-    let command = MakeSerial::parse(words).ok_or(Stop::Usage)?;
+    let command = Command::parse(words).ok_or(Stop::Usage)?;
     command.run(alloc, store, out)
 }
 
 /// Tells of the stop in `out`, in place of what it holds: the exit status, which is that of want of memory where there
 /// is none for the line.
 fn tell(alloc: Global, stop: Stop, out: &mut Vec<u8>) -> u8
-    ensures { ((result ≡ status_of stop.entry) × (out.new.items ≡ stop_text stop.entry)) ⊎ ((result ≡ 8) × (out.new.items ≡ [])) }
+    ensures { IsTold (ending_of stop.entry) result out.new.items ⊎ IsTold out_of_memory result out.new.items }
 {
     if stop == Stop::Memory || write_line(alloc, stop, out).is_err() {
         out.clear();

@@ -3,7 +3,7 @@ use Rattle.std.specs.List.{list_any}
 use Rattle.std.specs.Str.{bytes_eq}
 use Rattle.forge.specs.Words.{are_different}
 use Rattle.forge.proofs.Names.{first_differs, first_passes, first_fails}
-use Rattle.forge.proofs.command.+are_different.Goals as goal
+use Rattle.forge.proofs.words.+are_different.Goals as goal
 
 pub returns-then-not-is_among : goal.returns-then-not-is_among
 returns-then-not-is_among t c =

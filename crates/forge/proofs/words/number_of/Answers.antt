@@ -1,7 +1,7 @@
 use Rattle.std.proofs.Common.{◌≡◌, ◌<◌, ◌≤◌, ◌*◌, ◌+◌, ◌^◌, ℕ, Option, Some, None, sym, ◌∙◌, arith}
 use Rattle.std.specs.Option.{SomeIff}
 use Rattle.forge.proofs.Digits.{number_ends, number_too_large}
-use Rattle.forge.proofs.command.number_of.Goals as goal
+use Rattle.forge.proofs.words.number_of.Goals as goal
 
 -- the sum or the product that isn't there is too large
 too_much : (result : Option ℕ) (n v : ℕ) → SomeIff result (n < 2 ^ 64) v → result ≡ None → 2 ^ 64 ≤ n

@@ -1,6 +1,6 @@
 use Rattle.std.proofs.Common.{◌≡◌, ◌<◌, ◌^◌, drop}
 use Rattle.forge.specs.Parts.{number_behind}
-use Rattle.forge.proofs.command.number_of.Given as goal
+use Rattle.forge.proofs.words.number_of.Given as goal
 
 abbrev pub invariant-loop-digit : goal.invariant-loop-digit
 invariant-loop-digit l = (number_behind l.number (drop l.digit-index l.digits) ≡ number_behind 0 l.digits) × (l.number < 2 ^ 64)
