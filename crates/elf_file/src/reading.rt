@@ -1,10 +1,11 @@
-ghost use Rattle.std.specs.Prelude.{◌≡◌, ℕ, ◌≤◌, ◌⊎◌, ◌+◌, ◌*◌, ◌≢◌, List, length, take, drop, map, All, IsTrue, IfOk, IfErr, MatchResult, OnOk, Some, None};
+ghost use Rattle.std.specs.Prelude.{◌≡◌, ℕ, ◌≤◌, ◌⊎◌, ◌+◌, ◌*◌, ◌≢◌, List, length, take, drop, map, All, IsTrue, IfOk, IfErr, MatchResult, OnOk, Some, None, if◌then◌else◌};
 ghost use Rattle.std.specs.List.{flat_map};
-ghost use Rattle.ram_image.specs.Segments.{Stretch, stretch_of, stretches, lies_in_ram, are_sound, memory_of};
+ghost use Rattle.ram_image.specs.Segments.{Stretch, lies_in_ram, are_sound, memory_of};
 ghost use Rattle.ram_image.specs.Ram.{memory};
+ghost use Rattle.rv_fields.specs.Memory.{in_ram};
 ghost use Rattle.elf_file.specs.Headers.{header_offset, header_count, loads};
 ghost use Rattle.elf_file.specs.Faults.{first_fault, fault_of, span_of, segment_tests, Finds};
-ghost use Rattle.elf_file.specs.Loading.{segment_in, segments_in, load};
+ghost use Rattle.elf_file.specs.Loading.{segment_in, load};
 ghost use Rattle.elf_file.specs.Writing.{elf_of};
 ghost use Rattle.elf_file.specs.declared.fault.ElfFault.TheVariants.{Memory};
 
@@ -13,7 +14,7 @@ use crate::checking::{check_header, check_segment};
 use crate::fault::ElfFault;
 use crate::fields::{ProgramHeader, header_at, header_count};
 use crate::headers::LOAD;
-use ram_image::{Ram, Segment};
+use ram_image::Ram;
 use rv_fields::NoMemory;
 use std::alloc::Global;
 
@@ -31,20 +32,19 @@ pub fn read_elf(alloc: Global, bytes: &[u8]) -> Result<Ram, ElfFault>
     ensures written { (segments : List Stretch) → length segments ≤ 72 → IsTrue (are_sound segments) → bytes.now ≡ elf_of segments
         → MatchResult result (λ ram. (a : ℕ) → memory ram a ≡ memory_of segments a) (λ fault. fault ≡ Memory) }
 {
-    let segments = read_segments(alloc, bytes)?;
-    Ok(Ram::from_segments(alloc, &segments)?)
+    let headers = read_headers(alloc, bytes)?;
+    Ok(lay_segments(alloc, bytes, &headers)?)
 }
 
-/// Reads the segments that the file has to load.
-fn read_segments(alloc: Global, bytes: &[u8]) -> Result<Vec<Segment>, ElfFault>
-    ensures segments { IfOk result (λ segments. stretches segments.items ≡ segments_in bytes.now) }
-    ensures sound { IfOk result (λ segments. IsTrue (are_sound (stretches segments.items))) }
+/// Reads the headers of the segments that the file has to load.
+fn read_headers(alloc: Global, bytes: &[u8]) -> Result<Vec<ProgramHeader>, ElfFault>
+    ensures loads { IfOk result (λ headers. headers.items ≡ loads bytes.now) }
     ensures fault { Finds result (fault_of bytes.now) }
 {
     check_header(bytes)?;
     let headers = read_loads(alloc, bytes)?;
     check_apart(alloc, &headers)?;
-    Ok(copy_segments(alloc, bytes, &headers)?)
+    Ok(headers)
 }
 
 /// Reads the headers of the segments to load, each of which has no fault by itself.
@@ -66,32 +66,17 @@ fn read_loads(alloc: Global, bytes: &[u8]) -> Result<Vec<ProgramHeader>, ElfFaul
     Ok(headers)
 }
 
-/// Copies the bytes of the segments.
-fn copy_segments(
-    alloc: Global,
-    bytes: &[u8],
-    headers: &[ProgramHeader],
-) -> Result<Vec<Segment>, NoMemory>
-    ensures { IfOk result (λ segments. stretches segments.items ≡ map (segment_in bytes.now) headers.now) }
+/// Lays the bytes of the segments over zeros. Where segments share addresses, the first of them counts.
+fn lay_segments(alloc: Global, bytes: &[u8], headers: &[ProgramHeader]) -> Result<Ram, NoMemory>
+    ensures { IfOk result (λ ram. (a : ℕ) → memory ram a
+        ≡ (if in_ram a 1 then memory_of (map (segment_in bytes.now) headers.now) a else 0)) }
 {
-    let mut segments = Vec::new(alloc);
-    for header in headers {
-        segments.push(copy_segment(alloc, bytes, header)?)?;
+    let mut ram = Ram::zeros(alloc)?;
+    for header in headers.iter().rev() {
+        let segment = bytes_from(bytes, header.offset as usize, header.filesz as usize);
+        ram.lay(alloc, header.paddr, segment, header.memsz)?;
     }
-    Ok(segments)
-}
-
-/// Copies the bytes of a segment.
-fn copy_segment(alloc: Global, bytes: &[u8], header: &ProgramHeader) -> Result<Segment, NoMemory>
-    ensures { IfOk result (λ segment. stretch_of segment ≡ segment_in bytes.now header.now) }
-{
-    let bytes = bytes_from(bytes, header.offset as usize, header.filesz as usize);
-    Ok(Segment {
-        at: header.paddr,
-        bytes: Vec::from_slice(alloc, bytes)?,
-        size: header.memsz,
-        flags: header.flags,
-    })
+    Ok(ram)
 }
 
 /// So many bytes from the offset on, or those that there are.

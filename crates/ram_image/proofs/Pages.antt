@@ -176,9 +176,6 @@ inside_parts at size inside =
     let both = and_parts (leb ram_start at) (leb (at + size) ram_end) inside in
     (leb-true ram_start at both.0, leb-true (at + size) ram_end both.1)
 
-past_end : (a : ℕ) → ram_start ≤ a → in_ram a 1 ≡ false → ram_end ≤ a
-past_end a above outside = grind (arith, nat_tests)
-
 -- the page that is read from the place of an address is the page of the address
 pub page_at_is : (pages : List Page) (at : ℕ) (page : Page) → ram_start ≤ at → at < ram_end → length pages ≡ 65536
     → page ≡ get_or pages ((at - ram_start) / 4096) page → page_at pages at ≡ page
@@ -250,20 +247,4 @@ nothing_kept pages a none =
           let tested : leb ram_start a ≡ true = grind (arith, nat_tests) in
           ap (λ b. page_byte (if b then get_or pages ((a - ram_start) / 4096) None else None) place) tested
           ∙ ap (λ p. page_byte p place) (none ((a - ram_start) / 4096))
-    ]
-
--- outside RAM there are no pages
-pub nothing_outside : (pages : List Page) (a : ℕ) → length pages ≡ 65536 → in_ram a 1 ≡ false → byte_of pages a ≡ 0
-unfolding byte_of page_at
-nothing_outside pages a whole outside =
-    let place = (a - ram_start) % 4096 in
-    elim (cases_lt a ram_start) [
-      | inl below ↦
-          let tested : leb ram_start a ≡ false = grind (arith, nat_tests) in
-          ap (λ b. page_byte (if b then get_or pages ((a - ram_start) / 4096) None else None) place) tested
-      | inr above ↦
-          let past : ram_end ≤ a = past_end a above outside in
-          let tested : leb ram_start a ≡ true = grind (arith, nat_tests) in
-          ap (λ b. page_byte (if b then get_or pages ((a - ram_start) / 4096) None else None) place) tested
-          ∙ ap (λ p. page_byte p place) (get_or_past pages ((a - ram_start) / 4096) None (omega arith))
     ]

@@ -26,6 +26,11 @@ abbrev pub memory_of : List Stretch → ℕ → ℕ
 memory_of [] a = 0
 memory_of (s ∷ ss) a = unwrap_or (stretch_byte s a) (memory_of ss a)
 
+-- A memory over which bytes are laid, from an address on, and zeros behind them up to so many addresses. Outside RAM
+-- it stays as it is.
+abbrev pub laid_over : (ℕ → ℕ) → ℕ → List ℕ → ℕ → ℕ → ℕ
+laid_over memory at bytes size a = if in_ram a 1 && nat_le at a && nat_lt a (at + size) then slice_index bytes (a - at) else memory a
+
 -- so many addresses from one on
 pub record Span : Type 0 where
   pub at : ℕ

@@ -1,5 +1,5 @@
-ghost use Rattle.std.specs.Prelude.{◌≡◌, ◌+◌, ◌-◌, ◌*◌, ◌/◌, ◌%◌, ◌≤◌, ◌<◌, ◌↔◌, ◌&&◌, ℕ, length, slice_index, slice_index_or, nat_le, nat_lt, ◌^◌, false, replicate, IsTrue, IsSome, IfSome, Some, OnOk, IfOk, unwrap_or, if◌then◌else◌};
-ghost use Rattle.ram_image.specs.Segments.{memory_of, stretches, stretch_of, stretch_byte};
+ghost use Rattle.std.specs.Prelude.{◌≡◌, ◌+◌, ◌-◌, ◌*◌, ◌/◌, ◌%◌, ◌≤◌, ◌<◌, ◌↔◌, ◌&&◌, ◌⊎◌, ℕ, length, slice_index, slice_index_or, nat_le, nat_lt, ◌^◌, false, replicate, IsTrue, IsSome, IfSome, Some, OnOk, OnErr, IfOk, if◌then◌else◌};
+ghost use Rattle.ram_image.specs.Segments.{memory_of, stretches, laid_over};
 ghost use Rattle.rv_fields.specs.Memory.{in_ram, number_of, told, whole, stored, IsSize, ram_start, ram_end};
 
 use crate::segment::Segment;
@@ -90,13 +90,14 @@ impl Ram {
         let mut left = segments.len();
         while left > 0 {
             left -= 1;
-            ram.lay(alloc, &segments[left])?;
+            let segment = &segments[left];
+            ram.lay(alloc, segment.at, &segment.bytes, segment.size)?;
         }
         Ok(ram)
     }
 
     /// RAM that holds 0 everywhere.
-    fn zeros(alloc: Global) -> Result<Ram, NoMemory>
+    pub fn zeros(alloc: Global) -> Result<Ram, NoMemory>
         ensures { IfOk result (λ ram. (a : ℕ) → memory ram a ≡ 0) }
     {
         let mut pages = Vec::with_capacity(alloc, PAGE_COUNT)?;
@@ -106,38 +107,34 @@ impl Ram {
         Ok(Ram { pages })
     }
 
-    /// Lays the segment over what is there.
-    fn lay(&mut self, alloc: Global, segment: &Segment) -> Result<(), NoMemory>
-        ensures { OnOk result ((a : ℕ) → IsTrue (in_ram a 1) → memory self.new a
-            ≡ unwrap_or (stretch_byte (stretch_of segment.now) a) (memory self.old a)) }
+    /// Lays the bytes over what is there, from the address on, and zeros behind them up to so many addresses. What
+    /// would lie outside RAM is passed over. Where memory runs out, some of them may be laid.
+    pub fn lay(&mut self, alloc: Global, at: u64, bytes: &[u8], size: u64) -> Result<(), NoMemory>
+        ensures laid { OnOk result ((a : ℕ) → memory self.new a ≡ laid_over (memory self.old) at bytes.now size a) }
+        ensures partly { OnErr result ((a : ℕ) → (memory self.new a ≡ memory self.old a)
+            ⊎ (memory self.new a ≡ laid_over (memory self.old) at bytes.now size a)) }
+        ensures stays { (a : ℕ) → IsTrue (is_reserved self.old a) → IsTrue (is_reserved self.new a) }
     {
-        let end = segment.at.saturating_add(segment.size).min(RAM_END);
-        let mut at = segment.at.max(RAM_START);
-        while at < end {
-            let to = end.min((at / PAGE + 1) * PAGE);
-            self.lay_part(alloc, segment, at, to)?;
-            at = to;
+        let end = at.saturating_add(size).min(RAM_END);
+        let mut from = at.max(RAM_START);
+        while from < end {
+            let to = end.min((from / PAGE + 1) * PAGE);
+            self.lay_part(alloc, from, to, part(bytes, from - at, to - at))?;
+            from = to;
         }
         Ok(())
     }
 
-    /// Lays the part of a segment over a page that is there from one address up to another.
-    fn lay_part(
-        &mut self,
-        alloc: Global,
-        segment: &Segment,
-        at: u64,
-        to: u64,
-    ) -> Result<(), NoMemory>
-        requires begins { (segment.now.at ≤ at) × (at < to) }
+    /// Lays the bytes, and zeros behind them, over what is there from one address of a page up to another.
+    fn lay_part(&mut self, alloc: Global, at: u64, to: u64, bytes: &[u8]) -> Result<(), NoMemory>
         requires inside { (ram_start ≤ at) × (at < ram_end) × (to ≤ ram_end) }
+        requires room { at + length bytes.now ≤ to }
         requires page { (at - ram_start) % 4096 + (to - at) ≤ 4096 }
-        ensures { OnOk result ((a : ℕ) → memory self.new a
-            ≡ (if nat_le at a && nat_lt a to
-            then slice_index segment.now.bytes.items (a - segment.now.at)
-            else memory self.old a)) }
+        ensures laid { OnOk result ((a : ℕ) → memory self.new a
+            ≡ (if nat_le at a && nat_lt a to then slice_index bytes.now (a - at) else memory self.old a)) }
+        ensures unchanged { OnErr result ((a : ℕ) → memory self.new a ≡ memory self.old a) }
+        ensures stays { (a : ℕ) → IsTrue (is_reserved self.old a) → IsTrue (is_reserved self.new a) }
     {
-        let bytes = part(&segment.bytes, at - segment.at, to - segment.at);
         if bytes.is_empty() && !self.is_reserved(at) {
             return Ok(());
         }

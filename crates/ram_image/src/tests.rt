@@ -60,6 +60,23 @@ fn the_first_of_two_segments_counts(rt: HostRuntime) -> Result<(), Fail> {
 }
 
 #[test]
+fn bytes_are_laid_over_others(rt: HostRuntime) -> Result<(), Fail> {
+    let alloc = rt.alloc();
+    let mut ram = Ram::zeros(alloc)?;
+    assert_eq!(rt; ram.load(0x8000_0ffc, 8), Some(0));
+    // across the end of a page
+    ram.lay(alloc, 0x8000_0ffc, &[1, 2, 3, 4, 5, 6, 7, 8], 8)?;
+    ram.lay(alloc, 0x8000_0ffe, &[9], 3)?;
+    assert_eq!(rt; ram.load(0x8000_0ffc, 8), Some(0x0807_0600_0009_0201));
+    ram.lay(alloc, 0x8000_0ffc, &[], 8)?;
+    assert_eq!(rt; ram.load(0x8000_0ffc, 8), Some(0));
+    // more bytes than addresses
+    ram.lay(alloc, 0x8000_0000, &[1, 2, 3], 2)?;
+    assert_eq!(rt; ram.load(0x8000_0000, 4), Some(0x0201));
+    Ok(())
+}
+
+#[test]
 fn stores_change_their_bytes(rt: HostRuntime) -> Result<(), Fail> {
     let alloc = rt.alloc();
     let ones = segment(alloc, 0x8000_0000, &[0x11; 24], 24)?;

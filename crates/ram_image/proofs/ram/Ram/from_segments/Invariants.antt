@@ -1,4 +1,5 @@
-use Rattle.std.proofs.Common.{◌≡◌, ◌≤◌, ℕ, length, drop, IsTrue}
+use Rattle.std.proofs.Common.{◌≡◌, ◌≤◌, ℕ, length, drop}
+use Rattle.std.specs.Prelude.{if◌then◌else◌}
 use Rattle.rv_fields.specs.Memory.{in_ram}
 use Rattle.ram_image.specs.Ram.{memory}
 use Rattle.ram_image.specs.Segments.{memory_of, stretches}
@@ -7,7 +8,7 @@ use Rattle.ram_image.proofs.ram.Ram.from_segments.Given as goal
 abbrev pub invariant-loop-left : goal.invariant-loop-left
 invariant-loop-left l = record {
   within : l.left ≤ length l.segments;
-  laid : (a : ℕ) → IsTrue (in_ram a 1) → memory l.ram a ≡ memory_of (stretches (drop l.left l.segments)) a;
+  laid : (a : ℕ) → memory l.ram a ≡ (if in_ram a 1 then memory_of (stretches (drop l.left l.segments)) a else 0);
 }
 
 abbrev pub decreases-loop-left : goal.decreases-loop-left

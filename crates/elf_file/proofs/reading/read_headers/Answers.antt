@@ -1,10 +1,8 @@
-use Rattle.std.proofs.Common.{◌≡◌, [], map, None, ◌∙◌, sym, ap}
+use Rattle.std.proofs.Common.{[], ◌∙◌, sym, ap}
 use Rattle.std.proofs.lemmas.Result.{err_from_is_err_and}
-use Rattle.ram_image.specs.Segments.{are_sound}
-use Rattle.elf_file.specs.Faults.{first_fault, apart_tests, fault_of}
-use Rattle.elf_file.specs.Loading.{segment_in}
-use Rattle.elf_file.proofs.Judging.{fault_of_header, fault_of_segment, fault_of_pair, no_fault, sound_segments}
-use Rattle.elf_file.proofs.reading.read_segments.Goals as goal
+use Rattle.elf_file.specs.Faults.{first_fault, apart_tests}
+use Rattle.elf_file.proofs.Judging.{fault_of_header, fault_of_segment, fault_of_pair, no_fault}
+use Rattle.elf_file.proofs.reading.read_headers.Goals as goal
 
 pub returns-in_err-check_header-clause-fault : goal.returns-in_err-check_header-clause-fault
 returns-in_err-check_header-clause-fault c =
@@ -28,9 +26,3 @@ pub returns-clause-fault : goal.returns-clause-fault
 returns-clause-fault c =
     let headers = c.deref.ensures.value ∙ c.in_ok-headers.ensures.loads in
     no_fault c.args.bytes.now (sym c.in_ok-check_header.ensures.fault) c.in_ok-headers.ensures.fault (ap (λ hs. first_fault (apart_tests [] hs)) (sym headers) ∙ c.in_ok-check_apart.ensures)
-
-pub returns-clause-sound : goal.returns-clause-sound
-returns-clause-sound c =
-    let headers = c.deref-2.ensures.value ∙ c.in_ok-headers.ensures.loads in
-    let none : fault_of c.args.bytes.now ≡ None = returns-clause-fault c in
-    ap are_sound (c.in_ok-copy_segments.ensures ∙ ap (map (segment_in c.args.bytes.now)) headers) ∙ sound_segments c.args.bytes.now none
