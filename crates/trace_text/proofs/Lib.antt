@@ -21,9 +21,10 @@ pub mod OrderTexts
 pub mod Told
 pub mod OrdersTold
 pub mod Runs
-pub mod TraceLines
+pub mod TraceTexts
 pub mod Digits
 pub mod Joined
 pub mod Examples
 pub mod OrderExamples
 pub mod VisibleLines
+pub mod Unread

@@ -1,14 +1,14 @@
 -- The fault of a line, field by field.
-use Rattle.std.proofs.Common.{◌≡◌, ℕ, ◌+◌, List, ◌∷◌, true, cond, refl, sym, ap, ◌∙◌, Option, Some, Result, Ok, Err, subst}
+use Rattle.std.proofs.Common.{◌≡◌, ℕ, ◌+◌, List, ◌∷◌, true, cond, refl, sym, ap, ◌∙◌, Option, None, Some, Result, Ok, Err, subst}
 use Rattle.std.specs.Prelude.{MatchResult}
 use Rattle.std.specs.Result.{IsErrAnd}
-use Rattle.std.specs.Option.{is_some}
+use Rattle.std.specs.Option.{is_some, ok_or, option_map}
 use Rattle.trace_text.specs.declared.fields.Fields.{Fields}
 use Rattle.trace_text.specs.declared.fault.LineFault.{LineFault}
 use Rattle.trace_text.specs.declared.fault.LineFault.TheVariants.{At, Memory}
 use Rattle.trace_text.specs.Fields.{Test, first_wrong}
 use Rattle.trace_text.specs.Traces.{tells}
-use Rattle.trace_text.specs.Taking.{left, Took, Lacks}
+use Rattle.trace_text.specs.Taking.{left, Took, Takes, Lacks}
 use Rattle.trace_text.specs.LineReading.{IsWrongBy}
 use Rattle.trace_text.specs.Reading.{IsFaultIn}
 use Rattle.trace_text.specs.Orders.{is_word}
@@ -42,7 +42,7 @@ handed_on P Q (Ok v) fault is holds = absurd is
 handed_on P Q (Err f) fault is holds = subst Q (sym is) holds
 
 -- a field that tells something was taken
-pub taken : {A : Type 0} (reading : List ℕ → Option A) (a : A) {Fits : Type 0} (text field : List ℕ) (old new : Fields)
+taken : {A : Type 0} (reading : List ℕ → Option A) (a : A) {Fits : Type 0} (text field : List ℕ) (old new : Fields)
     → Fits × (text ≡ field) → reading field ≡ Some a → left old ≡ field ∷ left new → new.line ≡ old.line → new.number ≡ old.number + 1
     → Took old new text × (reading text ≡ Some a) × Fits
 taken reading a text field old new back told fields line number = (
@@ -50,6 +50,28 @@ taken reading a text field old new back told fields line number = (
   ap reading back.1 ∙ told,
   back.0,
 )
+
+-- What a reading makes of the field that was taken, where the text of what a field tells is that field.
+module _ {A V : Type 0} (reading : List ℕ → Option A) (text : A → List ℕ) {Fits : A → Type 0} (seen : V → A)
+    (back : (field : List ℕ) (a : A) → reading field ≡ Some a → Fits a × (text a ≡ field)) {old new : Fields} {field : List ℕ} (took : Took old new field) where
+  takes_at : (o : Option V) → option_map seen o ≡ reading field → Takes reading text Fits seen old new (ok_or o (At old.line old.number))
+  takes_at (Some v) told =
+      taken reading (seen v) (text (seen v)) field old new (back field (seen v) (sym told)) (sym told) took.fields took.line took.number
+  takes_at None told = (
+    refl,
+    refl,
+    λ more. ap (first_wrong old.number (tells reading ∷ more)) took.fields
+        ∙ ap (λ p. cond (is_some p) (first_wrong (old.number + 1) more (left new)) (Some old.number)) (sym told),
+  )
+
+  pub takes : (o : Option V) → option_map seen o ≡ reading field → (fault : LineFault) → fault ≡ At old.line old.number
+      → (result : Result V LineFault) → result ≡ ok_or o fault → Takes reading text Fits seen old new result
+  takes o told fault at result is = subst (Takes reading text Fits seen old new) (sym (is ∙ ap (ok_or o) at)) (takes_at o told)
+
+-- what is shown as it is
+pub as_is : {A : Type 0} (o : Option A) {p : Option A} → o ≡ p → option_map (λ a. a) o ≡ p
+as_is None told = told
+as_is (Some a) told = told
 
 -- the fault of a whole line
 pub from_start : (tests : List Test) (line : ℕ) (fields : List (List ℕ)) (old : Fields) (fault : LineFault)

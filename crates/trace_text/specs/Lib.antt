@@ -13,3 +13,4 @@ pub mod Readings
 pub mod Traces
 pub mod Taking
 pub mod LineReading
+pub mod Messages

@@ -1,13 +1,16 @@
 -- What the readers of orders and traces may answer.
-use Rattle.std.specs.Prelude.{◌≡◌, ℕ, List, Option, Some, None}
+use Rattle.std.specs.Prelude.{◌≡◌, ℕ, ◌+◌, ◌≤◌, List, [], ◌∷◌, ◌++◌, length, codes, Option, Some, None, MatchOption, MatchResult, Result}
 use Rattle.std.specs.List.{flat_map, AllByRecursion}
 use Rattle.trace_text.specs.declared.fault.LineFault.{LineFault}
 use Rattle.trace_text.specs.declared.fault.LineFault.TheVariants.{At, Memory}
+use Rattle.trace_text.specs.declared.line.Line as code
+use Rattle.trace_text.specs.declared.trace_lines.TraceLines.{TraceLines}
 use Rattle.trace_text.specs.Fields.{Test, Place, first_wrong, fault_from, lines_of_text}
 use Rattle.trace_text.specs.Lines.{Line}
-use Rattle.trace_text.specs.Orders.{order_form, turns, steps_of, order_fault, order_told, harts_told}
-use Rattle.trace_text.specs.Text.{line_text}
-use Rattle.trace_text.specs.Traces.{IsLine, trace_form}
+use Rattle.trace_text.specs.Orders.{order_form, turns, steps_of, order_fault, order_told, harts_told, most_harts}
+use Rattle.trace_text.specs.Text.{header_text, line_text}
+use Rattle.trace_text.specs.Traces.{IsLine, trace_fault, trace_form}
+use Rattle.trace_text.specs.Views.{line_seen}
 
 -- the fault is this one, or memory ran out
 abbrev pub IsFault : Option Place → LineFault → Type 0
@@ -34,11 +37,38 @@ pub record TellsTurns (harts : ℕ) (lines order : List ℕ) : Type 0 where
   pub sound : turns_fault harts lines ≡ None
   pub order_is : order ≡ flat_map steps_of (lines_of_text lines)
 
--- the same of a trace
-abbrev pub lines_fault : ℕ → List ℕ → Option Place
-lines_fault harts lines = fault_from trace_form (Some harts) 2 (lines_of_text lines)
+-- What of a trace of so many harts isn't read yet: the number of its first line, and the text from that line on.
+pub record Unread : Type 0 where
+  pub harts : ℕ
+  pub number : ℕ
+  pub text : List ℕ
 
--- the text behind the first line is that of these lines
-pub record AreLines (harts : ℕ) (text : List ℕ) (lines : List Line) : Type 0 where
-  pub are : AllByRecursion (IsLine harts) lines
-  pub text_is : text ≡ flat_map line_text lines
+abbrev pub unread : TraceLines → Unread
+unread lines = record { harts = lines.harts; number = lines.number; text = lines.rest.now }
+
+-- the first fault of what isn't read
+abbrev pub unread_fault : Unread → Option Place
+unread_fault u = fault_from trace_form (Some u.harts) u.number (lines_of_text u.text)
+
+-- The first line of a trace is read, which tells the harts, and nothing behind it.
+pub record Begins (text : List ℕ) (u : Unread) : Type 0 where
+  pub some : 1 ≤ u.harts
+  pub most : u.harts ≤ most_harts
+  pub number : u.number ≡ 2
+  pub text_is : text ≡ header_text (codes "trace") u.harts ++ u.text
+  pub fault : unread_fault u ≡ trace_fault text
+
+-- These lines are read, and nothing behind them. They have no fault.
+pub record HasRead (lines : List Line) (old new : Unread) : Type 0 where
+  pub harts : new.harts ≡ old.harts
+  pub are : AllByRecursion (IsLine old.harts) lines
+  pub number : new.number ≡ old.number + length lines
+  pub text_is : old.text ≡ flat_map line_text lines ++ new.text
+  pub fault : unread_fault new ≡ unread_fault old
+
+-- The next line is read, or there is none, or it has the first fault.
+abbrev pub ReadsNext : Unread → Unread → Result (Option code.Line) LineFault → Type 0
+ReadsNext old new result =
+    MatchResult result
+    (λ next. MatchOption next (HasRead [] old new × (new.text ≡ [])) (λ line. HasRead (line_seen line ∷ []) old new))
+    (λ fault. IsFault (unread_fault old) fault)

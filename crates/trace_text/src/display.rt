@@ -16,7 +16,7 @@ use std::fmt;
 
 /// A number, which is shown in hexadecimal digits.
 #[derive(Clone, Copy)]
-struct Hex(u64);
+pub struct Hex(pub u64);
 
 impl fmt::Display for Hex {
     ghost output = { λ number. Some (hex number.0) };
@@ -29,7 +29,7 @@ impl fmt::Display for Hex {
 
 /// An instruction word, which is shown in eight hexadecimal digits.
 #[derive(Clone, Copy)]
-struct Word(u32);
+pub struct Word(pub u32);
 
 impl fmt::Display for Word {
     ghost output = { λ word. Some (word_text word.0) };
@@ -102,7 +102,7 @@ impl fmt::Display for Letter {
 
 /// What is shown as `-` where there is nothing.
 #[derive(Clone, Copy)]
-struct OrNone<T>(Option<T>);
+pub struct OrNone<T>(pub Option<T>);
 
 impl<T: fmt::Display> fmt::Display for OrNone<T> {
     ghost output = { λ shown. option_map_or T.output shown.0 (Some none_text) };
@@ -117,7 +117,7 @@ impl<T: fmt::Display> fmt::Display for OrNone<T> {
 
 /// A register that is written, and its new value.
 #[derive(Clone, Copy)]
-struct Written((u8, u64));
+pub struct Written(pub (u8, u64));
 
 impl fmt::Display for Written {
     ghost output = { λ written. Some (write_text written.0) };

@@ -1,6 +1,7 @@
 ghost use Rattle.std.specs.Prelude.{◌≡◌};
 
 use std::alloc::AllocError;
+use std::fmt;
 
 /// Why a text was not read.
 #[derive(Clone, Copy, Debug, PartialEq, Eq)]
@@ -10,6 +11,20 @@ pub enum LineFault {
     At { line: u64, field: u32 },
     /// Want of memory.
     Memory,
+}
+
+impl fmt::Display for LineFault {
+    ghost use Rattle.std.specs.Prelude.{Some};
+    ghost use Rattle.trace_text.specs.Messages.{message};
+
+    ghost output = { λ fault. Some (message fault) };
+
+    fn fmt<W: fmt::Write>(&self, f: &mut fmt::Formatter<W>) -> fmt::Result {
+        match *self {
+            LineFault::At { line, field } => write!(f, "line {line} field {field}"),
+            LineFault::Memory => write!(f, "out of memory"),
+        }
+    }
 }
 
 impl From<AllocError> for LineFault {

@@ -50,6 +50,17 @@ impl<'a> Fields<'a> {
         }
     }
 
+    /// The next field, whatever it is.
+    pub(crate) fn next(&mut self) -> Result<&'a [u8], LineFault>
+        requires { self.old.number < 100 }
+        ensures { MatchResult result (λ field. Took self.old self.new field.now) (λ fault. (left self.old ≡ []) × (fault ≡ LineFault.At self.old.line self.old.number)) }
+    {
+        let fault = self.fault();
+        let field = self.parts.next().ok_or(fault)?;
+        self.number += 1;
+        Ok(field)
+    }
+
     /// The end of the line.
     pub(crate) fn end(&self) -> Result<(), LineFault>
         ensures { MatchResult result (λ end. left self.now ≡ []) (λ fault. Leaves self.now fault) }
@@ -67,9 +78,7 @@ impl<'a> Fields<'a> {
         ensures { Takes (decimal_below harts) decimal (λ h. h < harts) (λ v. v) self.old self.new result }
     {
         let fault = self.fault();
-        let field = self.parts.next().ok_or(fault)?;
-        let told = numbers::decimal_below(field, u64::from(harts)).ok_or(fault)?;
-        self.number += 1;
+        let told = numbers::decimal_below(self.next()?, u64::from(harts)).ok_or(fault)?;
         Ok(told as u8)
     }
 
@@ -79,10 +88,7 @@ impl<'a> Fields<'a> {
         ensures { Takes count_of decimal (λ n. n < 2 ^ 32) (λ v. v) self.old self.new result }
     {
         let fault = self.fault();
-        let field = self.parts.next().ok_or(fault)?;
-        let told = readings::count_of(field).ok_or(fault)?;
-        self.number += 1;
-        Ok(told)
+        readings::count_of(self.next()?).ok_or(fault)
     }
 
     /// A number in hexadecimal digits.
@@ -91,10 +97,7 @@ impl<'a> Fields<'a> {
         ensures { Takes hex_of hex (λ n. n < 2 ^ 64) (λ v. v) self.old self.new result }
     {
         let fault = self.fault();
-        let field = self.parts.next().ok_or(fault)?;
-        let told = numbers::hex_of(field).ok_or(fault)?;
-        self.number += 1;
-        Ok(told)
+        numbers::hex_of(self.next()?).ok_or(fault)
     }
 
     /// A word.
@@ -103,10 +106,7 @@ impl<'a> Fields<'a> {
         ensures { Takes word_of word_text (λ w. w < 2 ^ 32) (λ v. v) self.old self.new result }
     {
         let fault = self.fault();
-        let field = self.parts.next().ok_or(fault)?;
-        let told = numbers::word_of(field).ok_or(fault)?;
-        self.number += 1;
-        Ok(told)
+        numbers::word_of(self.next()?).ok_or(fault)
     }
 
     /// A register, x1 to x31.
@@ -115,9 +115,7 @@ impl<'a> Fields<'a> {
         ensures { Takes register_of decimal (λ r. (1 ≤ r) × (r < 32)) (λ v. v) self.old self.new result }
     {
         let fault = self.fault();
-        let field = self.parts.next().ok_or(fault)?;
-        let told = readings::register_of(field).ok_or(fault)?;
-        self.number += 1;
+        let told = readings::register_of(self.next()?).ok_or(fault)?;
         Ok(told.into())
     }
 
@@ -127,10 +125,7 @@ impl<'a> Fields<'a> {
         ensures { Takes space_of decimal (λ s. s < 16) (λ v. v) self.old self.new result }
     {
         let fault = self.fault();
-        let field = self.parts.next().ok_or(fault)?;
-        let told = readings::space_of(field).ok_or(fault)?;
-        self.number += 1;
-        Ok(told)
+        readings::space_of(self.next()?).ok_or(fault)
     }
 
     /// The number of words of a preamble.
@@ -139,10 +134,7 @@ impl<'a> Fields<'a> {
         ensures { Takes (number_of preambles) decimal (IsAnyOf preambles) (λ v. v) self.old self.new result }
     {
         let fault = self.fault();
-        let field = self.parts.next().ok_or(fault)?;
-        let told = readings::preamble_of(field).ok_or(fault)?;
-        self.number += 1;
-        Ok(told)
+        readings::preamble_of(self.next()?).ok_or(fault)
     }
 
     /// The kind of a request.
@@ -151,10 +143,7 @@ impl<'a> Fields<'a> {
         ensures { Takes kind_of kind_text (λ kind. Unit {0}) (λ v. v) self.old self.new result }
     {
         let fault = self.fault();
-        let field = self.parts.next().ok_or(fault)?;
-        let told = readings::kind_of(field).ok_or(fault)?;
-        self.number += 1;
-        Ok(told)
+        readings::kind_of(self.next()?).ok_or(fault)
     }
 
     /// The cause of a refusal.
@@ -163,10 +152,7 @@ impl<'a> Fields<'a> {
         ensures { Takes cause_of cause_text (λ cause. Unit {0}) (λ v. v) self.old self.new result }
     {
         let fault = self.fault();
-        let field = self.parts.next().ok_or(fault)?;
-        let told = readings::cause_of(field).ok_or(fault)?;
-        self.number += 1;
-        Ok(told)
+        readings::cause_of(self.next()?).ok_or(fault)
     }
 
     /// A name.
@@ -175,10 +161,7 @@ impl<'a> Fields<'a> {
         ensures { Takes name_of (λ name. name) IsName (λ v. v) self.old self.new result }
     {
         let fault = self.fault();
-        let field = self.parts.next().ok_or(fault)?;
-        let told = name_of(field).ok_or(fault)?;
-        self.number += 1;
-        Ok(told)
+        name_of(self.next()?).ok_or(fault)
     }
 
     /// The register that a step wrote, where it wrote one.
@@ -187,10 +170,7 @@ impl<'a> Fields<'a> {
         ensures { Takes (optional write_of) (or_none write_text) (λ write. IfSome write IsWrite) (λ v. v) self.old self.new result }
     {
         let fault = self.fault();
-        let field = self.parts.next().ok_or(fault)?;
-        let told = readings::optional_write_of(field).ok_or(fault)?;
-        self.number += 1;
-        Ok(told)
+        readings::optional_write_of(self.next()?).ok_or(fault)
     }
 
     /// What a step read or wrote in memory, where it did.
@@ -199,10 +179,7 @@ impl<'a> Fields<'a> {
         ensures { Takes (optional access_of) (or_none access_text) (λ access. IfSome access IsAccess) (λ v. v) self.old self.new result }
     {
         let fault = self.fault();
-        let field = self.parts.next().ok_or(fault)?;
-        let told = readings::optional_access_of(field).ok_or(fault)?;
-        self.number += 1;
-        Ok(told)
+        readings::optional_access_of(self.next()?).ok_or(fault)
     }
 
     /// The page table entries by which an address is translated.
@@ -211,10 +188,7 @@ impl<'a> Fields<'a> {
         ensures { Takes trail_of trail_text (λ trail. (length trail ≤ 4) × AllByRecursion IsEntry trail) (λ v. v) self.old self.new result }
     {
         let fault = self.fault();
-        let field = self.parts.next().ok_or(fault)?;
-        let told = readings::trail_of(field).ok_or(fault)?;
-        self.number += 1;
-        Ok(told)
+        readings::trail_of(self.next()?).ok_or(fault)
     }
 
     /// The trap that a step took, where it took one.
@@ -223,10 +197,7 @@ impl<'a> Fields<'a> {
         ensures { Takes (optional trap_of) (or_none trap_text) (λ trap. IfSome trap IsTrap) (λ v. v) self.old self.new result }
     {
         let fault = self.fault();
-        let field = self.parts.next().ok_or(fault)?;
-        let told = readings::optional_trap_of(field).ok_or(fault)?;
-        self.number += 1;
-        Ok(told)
+        readings::optional_trap_of(self.next()?).ok_or(fault)
     }
 
     /// The labels of a path.
@@ -235,10 +206,7 @@ impl<'a> Fields<'a> {
         ensures { Takes path_of (joined_by slash) IsPath (λ path. path.items) self.old self.new result }
     {
         let fault = self.fault();
-        let field = self.parts.next().ok_or(fault)?;
-        let told = readings::path_of(alloc, field)?.ok_or(fault)?;
-        self.number += 1;
-        Ok(told)
+        readings::path_of(alloc, self.next()?)?.ok_or(fault)
     }
 
     /// Bytes with which memory starts.
@@ -247,21 +215,7 @@ impl<'a> Fields<'a> {
         ensures { Takes bytes_of (flat_map byte_text) AreBytes (λ bytes. bytes.items) self.old self.new result }
     {
         let fault = self.fault();
-        let field = self.parts.next().ok_or(fault)?;
-        let told = readings::bytes_of(alloc, field)?.ok_or(fault)?;
-        self.number += 1;
-        Ok(told)
-    }
-
-    /// The next field, whatever it is.
-    pub(crate) fn next(&mut self) -> Result<&'a [u8], LineFault>
-        requires { self.old.number < 100 }
-        ensures { MatchResult result (λ field. Took self.old self.new field.now) (λ fault. (left self.old ≡ []) × (fault ≡ LineFault.At self.old.line self.old.number)) }
-    {
-        let fault = self.fault();
-        let field = self.parts.next().ok_or(fault)?;
-        self.number += 1;
-        Ok(field)
+        readings::bytes_of(alloc, self.next()?)?.ok_or(fault)
     }
 
     /// Just this word.
@@ -270,11 +224,9 @@ impl<'a> Fields<'a> {
         ensures { MatchResult result (λ taken. Took self.old self.new word.now) (λ fault. Lacks (is_word word.now) self.old fault) }
     {
         let fault = self.fault();
-        let field = self.parts.next().ok_or(fault)?;
-        if field != word.as_bytes() {
+        if self.next()? != word.as_bytes() {
             return Err(fault);
         }
-        self.number += 1;
         Ok(())
     }
 
@@ -286,10 +238,7 @@ impl<'a> Fields<'a> {
             (λ fault. Lacks (is_decimal 1 bound) self.old fault) }
     {
         let fault = self.fault();
-        let field = self.parts.next().ok_or(fault)?;
-        let count = numbers::count_below(field, bound).ok_or(fault)?;
-        self.number += 1;
-        Ok(count)
+        numbers::count_below(self.next()?, bound).ok_or(fault)
     }
 
     /// A hart below this number, and not the one of the line before.
@@ -300,9 +249,6 @@ impl<'a> Fields<'a> {
             (λ fault. Lacks (is_another_hart harts last) self.old fault) }
     {
         let fault = self.fault();
-        let field = self.parts.next().ok_or(fault)?;
-        let hart = readings::other_hart(field, harts, last).ok_or(fault)?;
-        self.number += 1;
-        Ok(hart)
+        readings::other_hart(self.next()?, harts, last).ok_or(fault)
     }
 }

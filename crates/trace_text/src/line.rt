@@ -1,5 +1,8 @@
+ghost use Rattle.std.specs.Prelude.{◌≡◌};
+ghost use Rattle.trace_text.specs.Letters.{letter_of_kind, letter_of_mode};
+
 use crate::trail::TrailText;
-use rv_fields::Name;
+use rv_fields::{AccessKind, Accessed, Mode, Name, Trap};
 use std::marker::Model;
 
 /// What a request is: the key that leads its item in a job.
@@ -60,6 +63,37 @@ impl Model for AccessText {
     ghost invariant = { λ a. letter_of_kind (kind_of_letter a.kind) ≡ a.kind };
 }
 
+impl AccessText {
+    ghost use Rattle.std.specs.Prelude.{◌≡◌};
+
+    /// What a step did in memory, as a trace tells it.
+    pub fn of(access: Accessed) -> AccessText
+        ensures { result ≡ access }
+    {
+        AccessText {
+            kind: letter_of_kind(access.kind),
+            va: access.va,
+            pa: access.pa,
+            size: access.size,
+            read: access.read,
+            wrote: access.wrote,
+        }
+    }
+}
+
+/// The letter of the kind.
+fn letter_of_kind(kind: AccessKind) -> u8
+    ensures { result ≡ letter_of_kind kind }
+{
+    match kind {
+        AccessKind::Load => b'l',
+        AccessKind::Store => b's',
+        AccessKind::Lr => b'r',
+        AccessKind::Sc => b'c',
+        AccessKind::Amo => b'a',
+    }
+}
+
 /// The trap that a step took.
 #[derive(Clone, Copy, Debug, PartialEq, Eq)]
 pub struct TrapText {
@@ -83,6 +117,35 @@ impl Model for TrapText {
     ghost inverse = { λ t. record { cause = t.cause; epc = t.epc; tval = t.tval; to = letter_of_mode t.to } };
 
     ghost invariant = { λ t. letter_of_mode (mode_of_letter t.to) ≡ t.to };
+}
+
+impl TrapText {
+    ghost use Rattle.std.specs.Prelude.{◌≡◌, ◌≢◌};
+    ghost use Rattle.rv_fields.specs.declared.mode.Mode.TheVariants.{U};
+
+    /// A trap that a step took, as a trace tells it. Mode U handles none.
+    pub fn of(trap: Trap) -> TrapText
+        requires handled { trap.to ≢ U }
+        ensures { result ≡ trap }
+    {
+        TrapText {
+            cause: trap.cause,
+            epc: trap.epc,
+            tval: trap.tval,
+            to: letter_of_mode(trap.to),
+        }
+    }
+}
+
+/// The letter of the mode.
+fn letter_of_mode(mode: Mode) -> u8
+    ensures { result ≡ letter_of_mode mode }
+{
+    match mode {
+        Mode::U => b'U',
+        Mode::S => b'S',
+        Mode::M => b'M',
+    }
 }
 
 /// What one step did.

@@ -1,9 +1,9 @@
-ghost use Rattle.std.specs.Prelude.{◌≡◌, ℕ, ◌<◌, ◌≤◌, ◌+◌, ◌++◌, length, List, Some, None, IfOk, IfErr, MatchResult};
+ghost use Rattle.std.specs.Prelude.{◌≡◌, ℕ, ◌<◌, ◌≤◌, ◌+◌, ◌++◌, ◌∷◌, [], length, List, Some, None, IfOk, IfErr, MatchResult};
 ghost use Rattle.trace_text.specs.Text.{trace_text, line_fields};
-ghost use Rattle.trace_text.specs.Fields.{fields_of, first_wrong};
+ghost use Rattle.trace_text.specs.Fields.{fields_of, first_wrong, lines_of_text};
 ghost use Rattle.trace_text.specs.Lines as model;
 ghost use Rattle.trace_text.specs.Traces.{IsTrace, IsLine, trace_fault, trace_tests};
-ghost use Rattle.trace_text.specs.Reading.{AreLines, IsFault, IsFaultIn, lines_fault};
+ghost use Rattle.trace_text.specs.Reading.{IsFault, IsFaultIn};
 ghost use Rattle.trace_text.specs.Views.{line_seen, lines_seen};
 
 use crate::fault::LineFault;
@@ -12,10 +12,69 @@ use crate::line::Line;
 use crate::lines;
 use crate::parts::cut;
 use crate::reading::{HEADER_FIELDS, at_end, header};
+use crate::trace_lines::TraceLines;
 use std::alloc::Global;
 
 #[cfg(test)]
 mod tests;
+
+impl<'a> TraceLines<'a> {
+    ghost use Rattle.trace_text.specs.Reading.{Begins, ReadsNext, unread};
+
+    /// Reads the first line of a trace, which tells the number of harts.
+    pub fn of(bytes: &'a [u8]) -> Result<TraceLines<'a>, LineFault>
+        ensures { MatchResult result (λ lines. Begins bytes.now (unread lines)) (λ fault. IsFault (trace_fault bytes.now) fault) }
+    {
+        let Some((first, rest)) = cut(bytes, b'\n') else {
+            return Err(at_end(1, header(bytes, "trace").err(), HEADER_FIELDS));
+        };
+        let harts = header(first, "trace")?;
+        Ok(TraceLines {
+            harts,
+            number: 2,
+            rest,
+        })
+    }
+
+    /// The number of harts that the trace tells, 1 to 16.
+    pub fn harts(&self) -> u8
+        ensures { result ≡ (unread self.now).harts }
+    {
+        self.harts
+    }
+
+    /// The number of the line that is read next, where there is one. The first line has the number 1.
+    pub fn number(&self) -> u64
+        ensures { result ≡ (unread self.now).number }
+    {
+        self.number
+    }
+
+    /// Reads the next line; none where all lines are read. After a fault the same line is the next.
+    pub fn next(&mut self, alloc: Global) -> Result<Option<Line>, LineFault>
+        ensures next { ReadsNext (unread self.old) (unread self.new) result }
+        ensures stays { IfErr result (λ fault. unread self.new ≡ unread self.old) }
+    {
+        let Some((first, behind)) = cut(self.rest, b'\n') else {
+            return self.end(alloc);
+        };
+        let line = read_line(alloc, self.number, self.harts, first)?;
+        self.rest = behind;
+        self.number += 1;
+        Ok(Some(line))
+    }
+
+    /// Where no newline is left, all lines are read, or the last one isn't ended.
+    fn end(&self, alloc: Global) -> Result<Option<Line>, LineFault>
+        requires { let text = (unread self.now).text in lines_of_text text ≡ text ∷ [] }
+        ensures { ReadsNext (unread self.now) (unread self.now) result }
+    {
+        match self.rest {
+            [] => Ok(None),
+            open => Err(fault_at_end(self.number, read_line(alloc, self.number, self.harts, open))),
+        }
+    }
+}
 
 /// Reads the text of a trace: the number of harts, and the lines.
 pub fn read_trace(alloc: Global, bytes: &[u8]) -> Result<(u8, Vec<Line>), LineFault>
@@ -36,32 +95,12 @@ fn read_all(alloc: Global, bytes: &[u8]) -> Result<(u8, Vec<Line>), LineFault>
         (λ read. IsTrace read.0 (lines_seen read.1.items) × (bytes.now ≡ trace_text read.0 (lines_seen read.1.items)))
         (λ fault. IsFault (trace_fault bytes.now) fault) }
 {
-    let Some((first, behind)) = cut(bytes, b'\n') else {
-        return Err(at_end(1, header(bytes, "trace").err(), HEADER_FIELDS));
-    };
-    let harts = header(first, "trace")?;
-    let lines = read_lines(alloc, harts, behind)?;
-    Ok((harts, lines))
-}
-
-/// Reads the lines behind the first.
-fn read_lines(alloc: Global, harts: u8, text: &[u8]) -> Result<Vec<Line>, LineFault>
-    requires { harts ≤ 16 }
-    ensures { MatchResult result (λ lines. AreLines harts text.now (lines_seen lines.items)) (λ fault. IsFault (lines_fault harts text.now) fault) }
-{
-    let mut rest = text;
+    let mut unread = TraceLines::of(bytes)?;
     let mut lines = Vec::new(alloc);
-    let mut number = 2;
-    while let Some((first, behind)) = cut(rest, b'\n') {
-        let line = read_line(alloc, number, harts, first)?;
+    while let Some(line) = unread.next(alloc)? {
         lines.push(line).map_err(|_| LineFault::Memory)?;
-        rest = behind;
-        number += 1;
     }
-    match rest {
-        [] => Ok(lines),
-        _ => Err(fault_at_end(number, read_line(alloc, number, harts, rest))),
-    }
+    Ok((unread.harts(), lines))
 }
 
 /// The fault of a line that no newline ends.

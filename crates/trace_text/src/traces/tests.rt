@@ -67,6 +67,32 @@ fn reads_the_first_example(rt: HostRuntime) {
 }
 
 #[test]
+fn reads_one_line_after_another(rt: HostRuntime) -> Result<(), Fail> {
+    let mut lines = TraceLines::of("trace 1 2\nd 1 7\nd 0 3\n".as_bytes())?;
+    assert_eq!(rt; lines.harts(), 2);
+    assert_eq!(rt; lines.number(), 2);
+    assert_eq!(rt; lines.next(rt.alloc()), Ok(Some(Line::D { hart: 1, k: 7 })));
+    assert_eq!(rt; lines.number(), 3);
+    assert_eq!(rt; lines.next(rt.alloc()), Ok(Some(Line::D { hart: 0, k: 3 })));
+    assert_eq!(rt; lines.number(), 4);
+    assert_eq!(rt; lines.next(rt.alloc()), Ok(None));
+    assert_eq!(rt; lines.next(rt.alloc()), Ok(None));
+    assert_eq!(rt; lines.number(), 4);
+    Ok(())
+}
+
+#[test]
+fn stops_at_a_fault_in_the_third_line(rt: HostRuntime) -> Result<(), Fail> {
+    let mut lines = TraceLines::of("trace 1 2\nd 1 7\nd 2 3\nd 0 3\n".as_bytes())?;
+    assert_eq!(rt; lines.next(rt.alloc()), Ok(Some(Line::D { hart: 1, k: 7 })));
+    let fault = LineFault::At { line: 3, field: 2 };
+    assert_eq!(rt; lines.next(rt.alloc()), Err(fault));
+    assert_eq!(rt; lines.next(rt.alloc()), Err(fault));
+    assert_eq!(rt; lines.number(), 3);
+    Ok(())
+}
+
+#[test]
 fn reads_a_trace_of_no_line(rt: HostRuntime) {
     match read_trace(rt.alloc(), "trace 1 16\n".as_bytes()) {
         Ok((harts, lines)) => {

@@ -1,4 +1,4 @@
-use Rattle.trace_text.proofs.TraceLines.{again_is}
+use Rattle.trace_text.proofs.TraceTexts.{again_is}
 use Rattle.trace_text.proofs.traces.read_trace.Goals as goal
 
 pub returns-clause-again : goal.returns-clause-again

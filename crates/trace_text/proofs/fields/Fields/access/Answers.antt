@@ -1,13 +1,10 @@
-use Rattle.std.proofs.Common.{rules, ◌≡◌, refl, Some}
 use Rattle.trace_text.specs.Readings.{optional, access_of}
 use Rattle.trace_text.specs.Text.{or_none, access_text}
 use Rattle.trace_text.proofs.Backs.{optional_access_back}
-use Rattle.trace_text.proofs.Taken.{taken}
+use Rattle.trace_text.proofs.Taken.{as_is, takes}
 use Rattle.trace_text.proofs.fields.Fields.access.Goals as goal
 
 pub returns : goal.returns
 returns c =
-    let field = c.in_ok-field.field.now in
-    let access = c.in_ok-told.told in
-    let told : optional access_of field ≡ Some access = search rules in
-    taken (optional access_of) access (or_none access_text access) field c.args.self.now _ (optional_access_back field access told) told (search rules) refl refl
+    let o = c.optional_access_of.result in
+    takes (optional access_of) (or_none access_text) (λ v. v) optional_access_back c.in_ok-next.ensures o (as_is o c.optional_access_of.ensures) c.fault-fault.result c.fault-fault.ensures c.ok_or.result c.ok_or.ensures.value

@@ -1,13 +1,10 @@
-use Rattle.std.proofs.Common.{rules, ◌≡◌, refl, Some}
 use Rattle.trace_text.specs.Readings.{optional, write_of}
 use Rattle.trace_text.specs.Text.{or_none, write_text}
 use Rattle.trace_text.proofs.Backs.{optional_write_back}
-use Rattle.trace_text.proofs.Taken.{taken}
+use Rattle.trace_text.proofs.Taken.{as_is, takes}
 use Rattle.trace_text.proofs.fields.Fields.write.Goals as goal
 
 pub returns : goal.returns
 returns c =
-    let field = c.in_ok-field.field.now in
-    let write = c.in_ok-told.told in
-    let told : optional write_of field ≡ Some write = search rules in
-    taken (optional write_of) write (or_none write_text write) field c.args.self.now _ (optional_write_back field write told) told (search rules) refl refl
+    let o = c.optional_write_of.result in
+    takes (optional write_of) (or_none write_text) (λ v. v) optional_write_back c.in_ok-next.ensures o (as_is o c.optional_write_of.ensures) c.fault-fault.result c.fault-fault.ensures c.ok_or.result c.ok_or.ensures.value

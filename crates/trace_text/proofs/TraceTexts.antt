@@ -1,11 +1,9 @@
--- The lines of a trace, read one after another.
-use Rattle.std.proofs.Common.{◌≡◌, ℕ, ◌+◌, ◌≤◌, List, [], ◌∷◌, ◌++◌, length, Bool, true, false, cond, refl, sym, ap, ◌∙◌, subst, append_assoc, append-nil, arith, Some, None, Result, Ok, Err}
-use Rattle.std.specs.Prelude.{MatchResult, ◌==◌, ◌&&◌, nat_lt, codes}
+-- The text of a trace, cut behind a line.
+use Rattle.std.proofs.Common.{◌≡◌, ℕ, ◌+◌, ◌≤◌, List, [], ◌∷◌, ◌++◌, length, Bool, true, false, cond, refl, sym, ap, ◌∙◌, subst, arith, Some, None, Result, Ok, Err}
+use Rattle.std.specs.Prelude.{MatchResult, ◌==◌, ◌&&◌, nat_lt}
 use Rattle.std.specs.Option.{unwrap_or}
-use Rattle.std.specs.List.{flat_map, join_with_byte, onto_first}
-use Rattle.std.specs.Fmt.{decimal}
+use Rattle.std.specs.List.{join_with_byte, onto_first}
 use Rattle.std.proofs.lemmas.Bool.{ne_eqb}
-use Rattle.std.proofs.lemmas.Grind.{flat_map-append}
 use Rattle.std.proofs.lemmas.List.Splits.{join_with_byte-slice_split}
 use Rattle.std.proofs.lemmas.Option.{none-some}
 use Rattle.trace_text.specs.declared.fault.LineFault.{LineFault}
@@ -14,7 +12,7 @@ use Rattle.trace_text.specs.declared.line.Line as code
 use Rattle.trace_text.specs.Fields.{fields_of, lines_of_text, wrong_in}
 use Rattle.trace_text.specs.Lines.{Line}
 use Rattle.trace_text.specs.Reading.{IsFault, IsFaultIn}
-use Rattle.trace_text.specs.Text.{line_fields, line_body, line_text, newline, trace_text}
+use Rattle.trace_text.specs.Text.{line_fields, trace_text}
 use Rattle.trace_text.specs.Traces.{IsLine, IsTrace, trace_form, trace_tests, trace_fault}
 use Rattle.trace_text.specs.Views.{line_seen, lines_seen}
 use Rattle.trace_text.proofs.Faults.{IsFaultAtEnd, at_end_in}
@@ -42,22 +40,6 @@ cut_text rest first behind cut =
 pub fields_text : (text : List ℕ) (fields : List (List ℕ)) → fields_of text ≡ fields → text ≡ join_with_byte 0x20 fields
 fields_text text fields are = sym (join_with_byte-slice_split 0x20 text) ∙ ap (join_with_byte 0x20) are
 
-flat_more : (lines : List Line) (l : Line) (behind : List ℕ)
-    → flat_map line_text (lines ++ l ∷ []) ++ behind ≡ flat_map line_text lines ++ (line_body l ++ (0x0a ∷ behind))
-flat_more lines l behind =
-    ap (λ (t : List ℕ). t ++ behind) (flat_map-append line_text lines (l ∷ []) ∙ ap (λ (t : List ℕ). flat_map line_text lines ++ t) (append-nil (line_text l)))
-    ∙ append_assoc (flat_map line_text lines) (line_text l) behind
-    ∙ ap (λ (t : List ℕ). flat_map line_text lines ++ t) (append_assoc (line_body l) newline behind)
-
--- one line more is read
-pub text_on : (lines : List Line) (l : Line) (rest first behind text : List ℕ)
-    → flat_map line_text lines ++ rest ≡ text → lines_of_text rest ≡ first ∷ lines_of_text behind → fields_of first ≡ line_fields l
-    → flat_map line_text (lines ++ l ∷ []) ++ behind ≡ text
-text_on lines l rest first behind text before cut fields =
-    flat_more lines l behind
-    ∙ ap (λ (f : List ℕ). flat_map line_text lines ++ (f ++ (0x0a ∷ behind))) (sym (fields_text first (line_fields l) fields))
-    ∙ ap (λ (t : List ℕ). flat_map line_text lines ++ t) (sym (cut_text rest first behind cut)) ∙ before
-
 -- a line that is read has no wrong field
 pub right_line : (harts : ℕ) → harts ≤ 16 → (l : Line) (fields : List (List ℕ)) → fields ≡ line_fields l → IsLine harts l
     → wrong_in trace_form (Some harts) fields ≡ None
@@ -76,17 +58,6 @@ open_line harts number text (Ok l) fault few reads is =
     subst (IsFaultAtEnd trace_form (Some harts) number text) (sym is) (refl, field)
 open_line harts number text (Err f) fault few reads is =
     subst (IsFaultAtEnd trace_form (Some harts) number text) (sym is) (at_end_in trace_form (Some harts) number text f reads)
-
--- the text of a first line and of the lines behind it
-pub whole_text : (harts : ℕ) (lines : List Line) (bytes first behind : List ℕ)
-    → lines_of_text bytes ≡ first ∷ lines_of_text behind → fields_of first ≡ codes "trace" ∷ codes "1" ∷ decimal harts ∷ []
-    → behind ≡ flat_map line_text lines → bytes ≡ trace_text harts lines
-whole_text harts lines bytes first behind cut fields rest =
-    let header = join_with_byte 0x20 (codes "trace" ∷ codes "1" ∷ decimal harts ∷ []) in
-    cut_text bytes first behind cut
-    ∙ ap (λ (f : List ℕ). f ++ 0x0a ∷ behind) (fields_text first (codes "trace" ∷ codes "1" ∷ decimal harts ∷ []) fields)
-    ∙ ap (λ (t : List ℕ). header ++ 0x0a ∷ t) rest
-    ∙ sym (append_assoc header newline (flat_map line_text lines))
 
 -- What the reader answers with, where `items` shows the vector's elements.
 pub again_is : {V : Type 0} (items : V → List code.Line) (text : List ℕ) (r : Result (ℕ × V) LineFault)
