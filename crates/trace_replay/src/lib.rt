@@ -1,2 +1,6 @@
 //! Whether a trace is what a program does from reset.
 #![tactic(auto)]
+
+mod verdict;
+
+pub use verdict::LineField;
