@@ -25,11 +25,13 @@ pub files_of : (work : Work) (trees : Forest) (seed : ℕ) (events : List Event)
     → FromReset work lines → Justified work lines → Answers work trees seed events lines → AreFilesOf work trees seed events elf order trace lines
 files_of work trees seed events elf order trace lines harts is_trace is_order in_ranges images file loaded boots justified answers = record {
   passes = record {
-    order_is = is_order;
-    order_ranges = in_ranges;
-    trace_is = is_trace;
-    trace_ranges = answers.ranges;
-    loads = λ a. (image work lines a, loaded a);
+    files = record {
+      loads = λ a. (image work lines a, loaded a);
+      order_is = is_order;
+      order_ranges = in_ranges;
+      trace_is = is_trace;
+      trace_ranges = answers.ranges;
+    };
     plays = λ machine reset. boots machine (record { bytes = λ a. reset.bytes a ∙ loaded a; links = reset.links; resets = reset.resets });
   };
   program_is = record { harts = harts; images = images; file = file };

@@ -1,2 +1,5 @@
 pub mod Passes
 pub mod Comparing
+pub mod Shown
+pub mod Verdicts
+pub mod Judging

@@ -1,6 +1,14 @@
 //! Whether a trace is what a program does from reset.
 #![tactic(auto)]
 
+mod boot;
+mod comparing;
+mod comparison;
+mod judge;
+mod replaying;
+mod shown;
 mod verdict;
 
-pub use verdict::LineField;
+pub use replaying::replay;
+pub use rv_machine::Reset;
+pub use verdict::{LineField, ReplayFault, Text, Verdict};

@@ -1,4 +1,13 @@
+ghost use Rattle.std.specs.Prelude.{◌≡◌, ◌≢◌, Option, Some, string_bytes};
+ghost use Rattle.trace_text.specs.Fields.{Place};
+ghost use Rattle.trace_text.specs.Reading.{IsFault};
+ghost use Rattle.trace_replay.specs.declared.verdict.ReplayFault.TheVariants.{Memory};
+ghost use Rattle.trace_replay.specs.Verdicts.{IsTraceFault};
+
+use elf_file::ElfFault;
+use rv_fields::NoMemory;
 use std::fmt;
+use trace_text::LineFault;
 
 /// What of a line of a trace is compared. A difference in `Harts`, the number of harts, or in the `Boot` of a hart is told of the first line.
 #[derive(Clone, Copy, Debug, PartialEq, Eq)]
@@ -34,5 +43,112 @@ impl fmt::Display for LineField {
             LineField::Trail => "trail",
             LineField::Trap => "trap",
         })
+    }
+}
+
+/// What a trace tells of a field, or what was found in its place, in the spelling of a trace.
+#[derive(Debug, Drop, PartialEq, Eq)]
+pub struct Text {
+    pub(crate) text: String,
+}
+
+impl Text {
+    pub fn bytes(&self) -> &[u8]
+        ensures { result.now ≡ string_bytes self.now.text }
+    {
+        self.text.as_bytes()
+    }
+}
+
+/// Whether a trace tells what the program does.
+#[derive(Debug, Drop, PartialEq, Eq)]
+pub enum Verdict {
+    /// It does. The trace has so many step lines.
+    Agrees {
+        steps: u64,
+    },
+    /// It doesn't. This is the first difference: the line of the trace, which counts from 1, its field, and both spellings.
+    Differs {
+        line: u64,
+        field: LineField,
+        told: Text,
+        found: Text,
+    },
+}
+
+impl fmt::Display for Verdict {
+    ghost use Rattle.trace_replay.specs.Verdicts.{verdict_text};
+
+    ghost output = { λ verdict. Some (verdict_text verdict) };
+
+    fn fmt<W: fmt::Write>(&self, f: &mut fmt::Formatter<W>) -> fmt::Result {
+        match self {
+            Verdict::Agrees { steps } => write!(f, "agrees {steps} steps"),
+            Verdict::Differs {
+                line,
+                field,
+                told,
+                found,
+            } => {
+                write!(f, "line {line} field {field}")?;
+                write!(
+                    f,
+                    " told {} found {}",
+                    told.text.as_str(),
+                    found.text.as_str()
+                )
+            }
+        }
+    }
+}
+
+/// Why files are not compared: the fault of the first of them that isn't in its form, or want of memory. The faults that are handed on
+/// are never want of memory themselves.
+#[derive(Clone, Copy, Debug, PartialEq, Eq)]
+pub enum ReplayFault {
+    Elf(ElfFault),
+    Order(LineFault),
+    Trace(LineFault),
+    Memory,
+}
+
+impl ReplayFault {
+    pub(crate) fn of_elf(fault: ElfFault) -> ReplayFault
+        ensures memory { fault ≡ ElfFault.Memory → result ≡ ReplayFault.Memory }
+        ensures other { fault ≢ ElfFault.Memory → result ≡ ReplayFault.Elf fault }
+    {
+        match fault {
+            ElfFault::Memory => ReplayFault::Memory,
+            fault => ReplayFault::Elf(fault),
+        }
+    }
+
+    pub(crate) fn of_order(fault: LineFault) -> ReplayFault
+        ensures memory { fault ≡ LineFault.Memory → result ≡ ReplayFault.Memory }
+        ensures other { fault ≢ LineFault.Memory → result ≡ ReplayFault.Order fault }
+    {
+        match fault {
+            LineFault::Memory => ReplayFault::Memory,
+            fault => ReplayFault::Order(fault),
+        }
+    }
+
+    pub(crate) fn of_trace(fault: LineFault) -> ReplayFault
+        ensures memory { fault ≡ LineFault.Memory → result ≡ ReplayFault.Memory }
+        ensures other { fault ≢ LineFault.Memory → result ≡ ReplayFault.Trace fault }
+        ensures place { (place : Option Place) → IsFault place fault → IsTraceFault place result }
+    {
+        match fault {
+            LineFault::Memory => ReplayFault::Memory,
+            fault => ReplayFault::Trace(fault),
+        }
+    }
+}
+
+impl From<NoMemory> for ReplayFault {
+    ghost from_gives = { λ _ fault. fault ≡ Memory };
+
+    fn from(_: NoMemory) -> ReplayFault {
+        ReplayFault::Memory
     }
 }
