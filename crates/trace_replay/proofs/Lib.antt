@@ -1,7 +1,14 @@
+pub mod Agreement
+pub mod Boots
+pub mod Compared
 pub mod Differing
+pub mod Entries
 pub mod Examples
+pub mod Fields
 pub mod Instance
 pub mod Judged
 pub mod Playing
+pub mod Sames
 pub mod Spelt
 pub mod Trails
+pub mod Turns
