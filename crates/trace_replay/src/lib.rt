@@ -12,3 +12,6 @@ mod verdict;
 pub use replaying::replay;
 pub use rv_machine::Reset;
 pub use verdict::{LineField, ReplayFault, Text, Verdict};
+
+#[cfg(test)]
+mod tests;

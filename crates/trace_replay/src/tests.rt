@@ -1,0 +1,5 @@
+mod boots;
+mod changes;
+mod faults;
+mod files;
+mod programs;
