@@ -7,10 +7,10 @@ use Rattle.trace_text.specs.Lines.{Line}
 use Rattle.forge.specs.declared.made.Counts.{Counts}
 use Rattle.forge.specs.declared.stop.Stop.{Stop}
 use Rattle.forge.specs.declared.stop.Stop.TheVariants.{Usage, Unread, Unwritten, Refused, TooLong, Memory}
-use Rattle.forge.specs.Words.{Command, command_of, make_serial}
+use Rattle.forge.specs.Words.{Command, command_of, make_serial, replay}
 use Rattle.forge.specs.Generated.{counts_text, IsCountOf}
-use Rattle.forge.specs.Ends.{Ending, made, usage, unread, unwritten, refused, too_long, out_of_memory, inputs, outputs, input_fault, AreHeld, Output, LeftBy, Unchanged, Told, KeepsOthers, Makes, Leaves, Causes, NoCommand, Serves, Ends}
-use Rattle.forge.specs.Stops.{ending_of, counts_body, IsTold, IsCause, EndsBy, IsMade, Becomes, IsStoppedWrite, StopsLate}
+use Rattle.forge.specs.Ends.{Ending, HasJudged, IsDone, agrees, differs, made, usage, unread, unwritten, refused, too_long, out_of_memory, inputs, outputs, input_fault, AreHeld, Output, LeftBy, Unchanged, Told, KeepsOthers, Makes, Leaves, Causes, NoCommand, Serves, Ends}
+use Rattle.forge.specs.Stops.{ending_of, counts_body, IsTold, IsCause, WritesBy, IsMade, Becomes, IsStoppedWrite, StopsLate}
 use Rattle.forge.proofs.Leaving.{others_apart, stopped_since}
 
 -- ---- options
@@ -56,6 +56,7 @@ unchanged_keeps c (Some b) now e = let F : Option Held → Type 0 = λ o. IsSome
 names_made : (c : Command) (contents : List (List ℕ)) (files : List Output) (harts : ℕ) (lines : List Line) → Makes c contents files harts lines
     → map (λ file. file.name) files ≡ outputs c
 names_made (make_serial m) contents files harts lines are = ap (map (λ file. file.name)) are.files_are
+names_made (replay r) contents files harts lines are = absurd are
 
 told_more : (before now : Option Held) (P Q : Held → Held → Type 0) → ((b n : Held) → P b n → Q b n)
     → IfSome before (λ b. IsSomeAnd now (λ n. P b n)) → IfSome before (λ b. IsSomeAnd now (λ n. Q b n))
@@ -73,6 +74,8 @@ leaves_others c old new count harts lines leaves = told_more old.holds new.holds
 
 others_of : (c : Command) (old new : State) (ending : Ending) → Causes c old new ending → Told old new (KeepsOthers c)
 others_of c old new (made harts lines) why = leaves_others c old new (length (outputs c)) harts lines why
+others_of c old new (agrees steps) why = unchanged_keeps c old.holds new.holds why.unchanged.0
+others_of c old new (differs difference) why = unchanged_keeps c old.holds new.holds why.unchanged.0
 others_of c old new usage why = absurd why
 others_of c old new (unread name) why = unchanged_keeps c old.holds new.holds why.unchanged.0
 others_of c old new (unwritten name) why = leaves_others c old new why.number why.harts why.lines why.left
@@ -100,7 +103,7 @@ held_alone (Some before) names contents P held p = λ others are. subst P (same_
 
 -- what contents without a fault end a command with, and what those with one
 abbrev EndsWell : State → State → Ending → Type 0
-EndsWell old new ending = ((harts : ℕ) × (lines : List Line) × (ending ≡ made harts lines)) ⊎ Rose old.write_faults new.write_faults ⊎ (ending ≡ out_of_memory)
+EndsWell old new ending = IsDone ending ⊎ Rose old.write_faults new.write_faults ⊎ (ending ≡ out_of_memory)
 
 abbrev EndsBadly : Ending → Ending → Type 0
 EndsBadly ending fault = (ending ≡ fault) ⊎ (ending ≡ out_of_memory)
@@ -118,10 +121,18 @@ serves_badly c old new ending contents held fault =
     held_alone old.holds (inputs c) contents (λ others. Serves c old new others ending) held
     (match_some (input_fault c contents) (EndsWell old new ending) (EndsBadly ending) ending fault (inl refl))
 
+judged_well : (c : Command) (old new : State) (ending : Ending) → HasJudged c old new ending → EndsWell old new ending
+    → IfSome old.holds (λ before. (contents : List (List ℕ)) → AreHeld before (inputs c) contents → Serves c old new contents ending)
+judged_well c old new ending judged well =
+    held_alone old.holds (inputs c) judged.contents (λ contents. Serves c old new contents ending) judged.held
+    (match_none (input_fault c judged.contents) (EndsWell old new ending) (EndsBadly ending) judged.accepted well)
+
 serves_of : (c : Command) (old new : State) (ending : Ending) → Causes c old new ending → ¬ Rose old.read_faults new.read_faults
     → IfSome old.holds (λ before. (contents : List (List ℕ)) → AreHeld before (inputs c) contents → Serves c old new contents ending)
 serves_of c old new (made harts lines) why reads =
-    serves_well c old new (length (outputs c)) harts lines (made harts lines) why (inl (harts, lines, refl))
+    serves_well c old new (length (outputs c)) harts lines (made harts lines) why (inl tt)
+serves_of c old new (agrees steps) why reads = judged_well c old new (agrees steps) why (inl tt)
+serves_of c old new (differs difference) why reads = judged_well c old new (differs difference) why (inl tt)
 serves_of c old new usage why reads = absurd why
 serves_of c old new (unread name) why reads = absurd (reads why.rose)
 serves_of c old new (unwritten name) why reads =
@@ -233,7 +244,7 @@ stopped_at c old new number harts lines left file ending at why = stopped ending
 pub ends_written : (c : Command) (old mid new : State) (files : List Output) (counts : Counts) (result : Result (Unit {0}) Stop) (out : List ℕ)
     → Unchanged old mid → IsMade c old files counts → out ≡ counts_body counts ++ codes "\n"
     → OnOk result (Becomes mid new (LeftBy files (length (outputs c)))) → IfErr result (λ stop. StopsLate files mid new (ending_of stop))
-    → EndsBy (Causes c old new) result out
+    → WritesBy (Causes c old new) result out
 ends_written c old mid new files counts (Ok u) out same m text written stopped =
     (made m.harts m.lines, leaves c old mid new files counts (length (outputs c)) same.0 m written, (refl, text ∙ counts_line counts m.harts m.lines m.counted))
 ends_written c old mid new files counts (Err stop) out same m text written stopped =

@@ -4,7 +4,7 @@ use Rattle.std.specs.Prelude.{◌&&◌, ◌||◌, not}
 use Rattle.std.specs.Str.{bytes_eq}
 use Rattle.std.proofs.lemmas.Slice.Eq.{bytes_eq-Decides}
 use Rattle.std.specs.List.{list_any}
-use Rattle.forge.specs.Words.{making_of, seed_of, are_files, are_different, is_option}
+use Rattle.forge.specs.Words.{making_of, replaying_of, seed_of, are_files, are_different, is_option}
 
 -- a test of what references point to
 pub any_seen : (p : List ℕ → Bool) (words : List (Bor (List ℕ))) → list_any p (map (λ word. word.now) words) ≡ list_any (λ word. p word.now) words
@@ -55,6 +55,37 @@ too_many f (x ∷ y ∷ z ∷ u ∷ []) many = absurd (omega arith)
 too_many f (x ∷ y ∷ z ∷ u ∷ v ∷ []) many = absurd (omega arith)
 too_many f (x ∷ y ∷ z ∷ u ∷ v ∷ w ∷ []) many = absurd (omega arith)
 too_many f (x ∷ y ∷ z ∷ u ∷ v ∷ w ∷ s ∷ r) many = refl
+
+-- a list of three items
+pub three : {A : Type 0} (xs : List A) (a b c : A) → 3 ≤ length xs → length xs < 4 → a ≡ get_or xs 0 a → b ≡ get_or xs 1 b → c ≡ get_or xs 2 c
+    → xs ≡ a ∷ b ∷ c ∷ []
+three [] a b c low high ha hb hc = absurd (omega arith)
+three (x ∷ []) a b c low high ha hb hc = absurd (omega arith)
+three (x ∷ y ∷ []) a b c low high ha hb hc = absurd (omega arith)
+three (x ∷ y ∷ z ∷ []) a b c low high ha hb hc = cc
+three (x ∷ y ∷ z ∷ u ∷ r) a b c low high ha hb hc = absurd (omega arith)
+
+-- three words ask for this, where they are files
+pub is_replaying : (words : List (List ℕ)) (elf order trace : List ℕ) → words ≡ elf ∷ order ∷ trace ∷ [] → are_files (elf ∷ order ∷ trace ∷ []) ≡ true
+    → replaying_of words ≡ Some (record { elf = elf; order = order; trace = trace })
+is_replaying words elf order trace e h = rw (e, h) refl
+
+pub is_no_replaying : (words : List (List ℕ)) (elf order trace : List ℕ) → words ≡ elf ∷ order ∷ trace ∷ [] → are_files (elf ∷ order ∷ trace ∷ []) ≡ false
+    → replaying_of words ≡ None
+is_no_replaying words elf order trace e h = rw (e, h) refl
+
+pub fewer : {A : Type 0} (f : A → List ℕ) (xs : List A) → length xs < 3 → replaying_of (map f xs) ≡ None
+fewer f [] few = refl
+fewer f (x ∷ []) few = refl
+fewer f (x ∷ y ∷ []) few = refl
+fewer f (x ∷ y ∷ z ∷ r) few = absurd (omega arith)
+
+pub more : {A : Type 0} (f : A → List ℕ) (xs : List A) → 4 ≤ length xs → replaying_of (map f xs) ≡ None
+more f [] many = absurd (omega arith)
+more f (x ∷ []) many = absurd (omega arith)
+more f (x ∷ y ∷ []) many = absurd (omega arith)
+more f (x ∷ y ∷ z ∷ []) many = absurd (omega arith)
+more f (x ∷ y ∷ z ∷ u ∷ r) many = refl
 
 -- a text is the same as itself
 same_text : (x y : List ℕ) → x ≡ y → bytes_eq x y ≡ true

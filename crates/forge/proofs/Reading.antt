@@ -1,6 +1,7 @@
 -- The files that a command reads, one after another.
-use Rattle.std.proofs.Common.{ℕ, suc, ◌+◌, ◌≡◌, ◌≤◌, ◌<◌, refl, sym, ap, ◌∙◌, subst, arith, inl, inr, List, [], ◌∷◌, ◌++◌, length, get_or, map, take, replicate, Bor, Bool, true, false, nat_lt, Option, Some, None, IfSome, IsSomeAnd}
+use Rattle.std.proofs.Common.{ℕ, suc, ◌+◌, ◌≡◌, ◌≤◌, ◌<◌, refl, sym, ap, ◌∙◌, subst, arith, inl, inr, List, [], ◌∷◌, ◌++◌, length, get_or, map, take, replicate, Bor, Bool, true, false, nat_lt, Option, Some, None, IfSome, IsSomeAnd, append_assoc, codes}
 use Rattle.std.specs.Prelude.{MatchOption, option_map, slice_get, if◌then◌else◌}
+use Rattle.std.specs.Fmt.{decimal}
 use Rattle.std.specs.List.{AllByRecursion}
 use Rattle.std.specs.Option.{option_or}
 use Rattle.std.proofs.lemmas.Bool.Decides.{nat_tests}
@@ -12,10 +13,18 @@ use Rattle.region_plan.specs.Plan.{Work, hart_count}
 use Rattle.trace_text.specs.Lines.{Line}
 use Rattle.job_read.specs.Accepted.{job_in}
 use Rattle.forge.specs.declared.made.Made.{Made}
-use Rattle.forge.specs.Words.{Command, Making, make_serial}
+use Rattle.trace_text.specs.declared.fault.LineFault.TheVariants.{At}
+use Rattle.trace_text.specs.declared.fault.LineFault.TheVariants as line_faults
+use Rattle.trace_replay.specs.declared.verdict.ReplayFault.{ReplayFault}
+use Rattle.trace_replay.specs.declared.verdict.ReplayFault.TheVariants as faults
+use Rattle.trace_replay.specs.declared.verdict.Verdict.{Verdict}
+use Rattle.trace_replay.specs.declared.verdict.Verdict.TheVariants.{Agrees, Differs}
+use Rattle.trace_replay.specs.Verdicts.{IsFaultOf, verdict_text}
+use Rattle.trace_replay.proofs.Agreement.{files_sound}
+use Rattle.forge.specs.Words.{Command, Making, Replaying, make_serial, replay}
 use Rattle.forge.specs.Generated.{IsCountOf, IsRunOf, drawn}
-use Rattle.forge.specs.Ends.{Ending, unread, refused, too_long, out_of_memory, inputs, most_bytes, length_fault, form_fault, input_fault, AreHeld, IsThere, Output, Unchanged, IsRunFrom, Causes}
-use Rattle.forge.specs.Stops.{IsContent, IsStoppedRead, IsStoppedForm, IsReadFor, AreRead, IsMade, IsMadeFrom, files_of}
+use Rattle.forge.specs.Ends.{Ending, unread, refused, too_long, out_of_memory, inputs, most_bytes, length_fault, form_fault, input_fault, AreHeld, IsThere, Output, Unchanged, IsRunFrom, HasJudged, printed, IsJudged, ending_on, Causes}
+use Rattle.forge.specs.Stops.{IsContent, IsStoppedRead, IsStoppedForm, IsReadFor, AreRead, IsMade, IsMadeFrom, files_of, stop_ending}
 
 -- ---- one name more
 
@@ -353,3 +362,52 @@ serial_made m old job trees made read from = record {
   made = from.run;
   counted = from.counts;
 }
+
+-- ---- what replay judges
+
+-- three contents, as the program holds them
+pub all_three : {A : Type 0} (f : A → List ℕ) (xs : List A) (a b c : A) (x y z : List ℕ) → length (map f xs) ≡ 3 → a ≡ get_or xs 0 a → b ≡ get_or xs 1 b
+    → c ≡ get_or xs 2 c → x ≡ f a → y ≡ f b → z ≡ f c → map f xs ≡ x ∷ y ∷ z ∷ []
+all_three f [] a b c x y z three ha hb hc hx hy hz = absurd (omega (arith, three))
+all_three f (p ∷ []) a b c x y z three ha hb hc hx hy hz = absurd (omega (arith, three))
+all_three f (p ∷ q ∷ []) a b c x y z three ha hb hc hx hy hz = absurd (omega (arith, three))
+all_three f (p ∷ q ∷ r ∷ []) a b c x y z three ha hb hc hx hy hz = cc
+all_three f (p ∷ q ∷ r ∷ s ∷ rs) a b c x y z three ha hb hc hx hy hz = absurd (omega (arith, three))
+
+-- files in their forms have no fault
+no_form_fault : (r : Replaying) (elf order trace : List ℕ) (ending : Ending) → IsJudged elf order trace ending → form_fault (replay r) (elf ∷ order ∷ trace ∷ []) ≡ None
+no_form_fault r elf order trace ending judged =
+    let sound = files_sound judged.is.harts judged.is.order judged.is.told_harts judged.is.lines elf order trace judged.is.files in
+    rw (sound.0, sound.1, sound.2) refl
+
+-- what replay read and judged
+pub has_judged : (r : Replaying) (old new : State) (elf order trace : List ℕ) (ending : Ending) → AreRead (replay r) old (elf ∷ order ∷ trace ∷ []) → Unchanged old new
+    → IsJudged elf order trace ending → HasJudged (replay r) old new ending
+has_judged r old new elf order trace ending read same judged = record {
+  contents = elf ∷ order ∷ trace ∷ [];
+  held = read.held;
+  accepted = accepted_read (replay r) old (elf ∷ order ∷ trace ∷ []) read ∙ no_form_fault r elf order trace ending judged;
+  judges = judged;
+  unchanged = same;
+}
+
+-- a verdict is a cause
+pub judged_cause : (r : Replaying) (old new : State) (verdict : Verdict) → HasJudged (replay r) old new (ending_on verdict) → Causes (replay r) old new (ending_on verdict)
+judged_cause r old new (Agrees steps) judged = judged
+judged_cause r old new (Differs line field told found) judged = judged
+
+-- the line that tells of it
+pub verdict_told : (verdict : Verdict) → verdict_text verdict ++ codes "\n" ≡ printed (ending_on verdict)
+verdict_told (Agrees steps) = append_assoc (codes "agrees ") (decimal steps ++ codes " steps") (codes "\n")
+    ∙ ap (λ t. codes "agrees " ++ t) (append_assoc (decimal steps) (codes " steps") (codes "\n"))
+verdict_told (Differs line field told found) = refl
+
+-- a fault of the first file that has one stops it
+pub stopped_fault : (r : Replaying) (elf order trace : List ℕ) (fault : ReplayFault) → IsFaultOf elf order trace fault
+    → IsStoppedForm (replay r) (elf ∷ order ∷ trace ∷ []) (stop_ending r fault)
+stopped_fault r elf order trace (faults.Elf fault) is = rw is.1 refl
+stopped_fault r elf order trace (faults.Order (At l f)) is = rw (is.1, is.2) refl
+stopped_fault r elf order trace (faults.Order line_faults.Memory) is = absurd (is.0 refl)
+stopped_fault r elf order trace (faults.Trace (At l f)) is = rw (is.1, is.2, is.3) refl
+stopped_fault r elf order trace (faults.Trace line_faults.Memory) is = absurd (is.0 refl)
+stopped_fault r elf order trace faults.Memory is = tt

@@ -1,14 +1,26 @@
 -- How a command ends: why, what it leaves in the store, its status, and what it prints.
-use Rattle.std.specs.Prelude.{ℕ, suc, ◌≡◌, ◌≢◌, ◌<◌, ◌⊎◌, List, [], ◌∷◌, ◌++◌, length, take, codes, nat_lt, Option, Some, None, IfSome, IsSomeAnd, MatchOption, slice_get, if◌then◌else◌}
+use Rattle.std.specs.Prelude.{ℕ, suc, true, ◌≡◌, ◌↔◌, ◌≢◌, ◌<◌, ◌⊎◌, List, [], ◌∷◌, ◌++◌, length, take, codes, nat_lt, option_map, replicate, string_bytes, Option, Some, None, IfSome, IsSomeAnd, MatchOption, slice_get, if◌then◌else◌}
 use Rattle.std.specs.Fmt.{decimal}
 use Rattle.std.specs.List.{AllByRecursion}
 use Rattle.std.specs.Option.{option_or}
 use Rattle.choice_tree.specs.Forest.{Forest, forest_in}
 use Rattle.region_plan.specs.Plan.{Work, hart_count}
+use Rattle.trace_text.specs.Fields.{Place}
 use Rattle.trace_text.specs.Lines.{Line}
+use Rattle.trace_text.specs.Orders.{order_fault}
+use Rattle.trace_text.specs.Traces.{trace_fault}
+use Rattle.elf_file.specs.Faults.{fault_of}
+use Rattle.elf_file.specs.Messages.{message}
+use Rattle.rv_machine.specs.declared.reset.Reset.{Reset}
+use Rattle.trace_replay.specs.declared.verdict.Verdict.{Verdict}
+use Rattle.trace_replay.specs.declared.verdict.Verdict.TheVariants.{Agrees, Differs}
+use Rattle.trace_replay.specs.Comparing.{Difference}
+use Rattle.trace_replay.specs.Passes.{PassesFrom}
+use Rattle.trace_replay.specs.Verdicts as verdicts
+use Rattle.trace_replay.specs.Verdicts.{IsVerdict, difference_text}
 use Rattle.job_read.specs.Accepted.{job_in}
 use Rattle.store_face.specs.State.{Held, State, Rose}
-use Rattle.forge.specs.Words.{Command, Making, command_of, make_serial}
+use Rattle.forge.specs.Words.{Command, Making, command_of, make_serial, replay}
 use Rattle.forge.specs.Generated.{IsRunOf, counts_text, drawn}
 
 -- ---- endings, their statuses and what is printed
@@ -16,6 +28,9 @@ use Rattle.forge.specs.Generated.{IsRunOf, counts_text, drawn}
 pub data Ending : Type 0 where
   -- the files of a run of so many harts are written, whose lines these are
   made : ℕ → List Line → Ending
+  -- the trace, which has so many step lines, tells what the program does; or this is the first difference
+  agrees : ℕ → Ending
+  differs : Difference → Ending
   -- the words are no command's
   usage : Ending
   -- the file of this name can't be read, or can't be written
@@ -29,6 +44,8 @@ pub data Ending : Type 0 where
 
 abbrev pub status_of : Ending → ℕ
 status_of (made harts lines) = 0
+status_of (agrees steps) = 0
+status_of (differs difference) = 1
 status_of usage = 3
 status_of (unread name) = 4
 status_of (unwritten name) = 5
@@ -38,6 +55,8 @@ status_of out_of_memory = 8
 
 abbrev pub printed : Ending → List ℕ
 printed (made harts lines) = counts_text harts lines
+printed (agrees steps) = codes "agrees " ++ decimal steps ++ codes " steps\n"
+printed (differs difference) = difference_text difference ++ codes "\n"
 printed usage = codes "usage: make|make-serial JOB TREES SEED ELF ORDER TRACE; replay ELF ORDER TRACE; big N JOB TREES; check JOB TREES\n"
 printed (unread name) = codes "cannot read " ++ name ++ codes "\n"
 printed (unwritten name) = codes "cannot write " ++ name ++ codes "\n"
@@ -50,13 +69,16 @@ printed out_of_memory = []
 -- the names of the files that it reads and of those that it writes, each in its order
 abbrev pub inputs : Command → List (List ℕ)
 inputs (make_serial m) = m.job ∷ m.trees ∷ []
+inputs (replay r) = r.elf ∷ r.order ∷ r.trace ∷ []
 
 abbrev pub outputs : Command → List (List ℕ)
 outputs (make_serial m) = m.elf ∷ m.order ∷ m.trace ∷ []
+outputs (replay r) = []
 
 -- the most bytes that a file has which it reads
 abbrev pub most_bytes : Command → ℕ
 most_bytes (make_serial m) = 4194304
+most_bytes (replay r) = 536870912
 
 -- the first of the files that is too long
 abbrev pub length_fault : ℕ → List (List ℕ) → List (List ℕ) → Option Ending
@@ -70,9 +92,20 @@ abbrev pub unless_read : {A : Type 0} → List ℕ → Option A → Option Endin
 unless_read name None = Some (refused name (codes "not built yet"))
 unless_read name (Some value) = None
 
+-- what is at fault
+abbrev pub if_faulty : {A : Type 0} → List ℕ → (A → List ℕ) → Option A → Option Ending
+if_faulty name text fault = option_map (λ fault. refused name (text fault)) fault
+
+-- the wrong field of a line
+abbrev pub place_text : Place → List ℕ
+place_text place = codes "line " ++ decimal place.line ++ codes " field " ++ decimal place.field
+
 -- the first of the files whose content isn't accepted
 abbrev pub form_fault : Command → List (List ℕ) → Option Ending
 form_fault (make_serial m) (job ∷ trees ∷ []) = option_or (unless_read m.job (job_in job)) (unless_read m.trees (forest_in trees))
+form_fault (replay r) (elf ∷ order ∷ trace ∷ []) =
+    option_or (if_faulty r.elf message (fault_of elf))
+    (option_or (if_faulty r.order place_text (order_fault order)) (if_faulty r.trace place_text (trace_fault trace)))
 form_fault c contents = None
 
 -- What these contents of its inputs end a command with, if anything: lengths come before forms.
@@ -138,6 +171,7 @@ pub record IsRunFrom (m : Making) (contents : List (List ℕ)) (files : List Out
 -- what the command makes of these contents
 abbrev pub Makes : Command → List (List ℕ) → List Output → ℕ → List Line → Type 0
 Makes (make_serial m) contents files harts lines = IsRunFrom m contents files harts lines
+Makes (replay r) contents files harts lines = ⊥
 
 -- Of the files that the command makes of its inputs so many are whole.
 pub record Leaves (c : Command) (old new : State) (count harts : ℕ) (lines : List Line) : Type 0 where
@@ -147,6 +181,38 @@ pub record Leaves (c : Command) (old new : State) (count harts : ℕ) (lines : L
   pub files : List Output
   pub made : Makes c contents files harts lines
   pub left : Told old new (LeftBy files count)
+
+-- ---- what it judges
+
+-- zeros in all registers
+abbrev pub zeros : Reset
+zeros = record { x = replicate 31 0; csrs = replicate 19 0 }
+
+-- what the verdict ends the command with
+abbrev pub ending_on : Verdict → Ending
+ending_on (Agrees steps) = agrees steps
+ending_on (Differs line field told found) =
+    differs (record { line = line; field = field; told = string_bytes told.text; found = string_bytes found.text })
+
+-- The verdict on three files from the reset with zeros in all registers. It agrees exactly where they pass from it.
+pub record IsJudged (elf order trace : List ℕ) (ending : Ending) : Type 0 where
+  pub verdict : Verdict
+  pub is : IsVerdict zeros elf order trace verdict
+  pub exactly : (verdicts.agrees verdict ≡ true) ↔ PassesFrom zeros elf order trace
+  pub ending_is : ending ≡ ending_on verdict
+
+-- what the command judges of these contents
+abbrev pub Judges : Command → List (List ℕ) → Ending → Type 0
+Judges (replay r) (elf ∷ order ∷ trace ∷ []) ending = IsJudged elf order trace ending
+Judges c contents ending = ⊥
+
+-- The command has judged what its inputs hold, which have no fault, and wrote nothing.
+pub record HasJudged (c : Command) (old new : State) (ending : Ending) : Type 0 where
+  pub contents : List (List ℕ)
+  pub held : IfSome old.holds (λ before. AreHeld before (inputs c) contents)
+  pub accepted : input_fault c contents ≡ None
+  pub judges : Judges c contents ending
+  pub unchanged : Unchanged old new
 
 -- ---- why it ends so
 
@@ -180,6 +246,8 @@ pub record StopsWriting (c : Command) (old new : State) : Type 0 where
 -- Each ending with its cause, and what it leaves.
 abbrev pub Causes : Command → State → State → Ending → Type 0
 Causes c old new (made harts lines) = Leaves c old new (length (outputs c)) harts lines
+Causes c old new (agrees steps) = HasJudged c old new (agrees steps)
+Causes c old new (differs difference) = HasJudged c old new (differs difference)
 Causes c old new usage = ⊥
 Causes c old new (unread name) = ReadFails c old new name
 Causes c old new (unwritten name) = WriteFails c old new name
@@ -192,12 +260,19 @@ Causes c old new out_of_memory = Unchanged old new ⊎ StopsWriting c old new
 abbrev pub NoCommand : State → State → Ending → Type 0
 NoCommand old new ending = (new ≡ old) × ((ending ≡ usage) ⊎ (ending ≡ out_of_memory))
 
--- What inputs that are there end a command with where no read failed: their fault, if they have one; else it made what it was to make, or
+-- the command has done what it was asked for
+abbrev pub IsDone : Ending → Type 0
+IsDone (made harts lines) = Unit {0}
+IsDone (agrees steps) = Unit {0}
+IsDone (differs difference) = Unit {0}
+IsDone ending = ⊥
+
+-- What inputs that are there end a command with where no read failed: their fault, if they have one; else it did what it was asked for, or
 -- a write failed. Memory may run out in any case.
 abbrev pub Serves : Command → State → State → List (List ℕ) → Ending → Type 0
 Serves c old new contents ending =
     MatchOption (input_fault c contents)
-    (((harts : ℕ) × (lines : List Line) × (ending ≡ made harts lines)) ⊎ Rose old.write_faults new.write_faults ⊎ (ending ≡ out_of_memory))
+    (IsDone ending ⊎ Rose old.write_faults new.write_faults ⊎ (ending ≡ out_of_memory))
     (λ fault. (ending ≡ fault) ⊎ (ending ≡ out_of_memory))
 
 -- How the words end.

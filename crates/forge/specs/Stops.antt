@@ -1,18 +1,23 @@
 -- What the steps of a command say: what they read, made and wrote, and where one of them stopped it.
 use Rattle.std.specs.Prelude.{ℕ, ◌≡◌, ◌<◌, ◌≤◌, List, [], ◌∷◌, ◌++◌, length, codes, Option, Some, None, IfSome, IsSomeAnd, MatchOption, Result, MatchResult, slice_get}
 use Rattle.std.specs.Fmt.{decimal}
-use Rattle.trace_text.specs.Lines.{Line}
+use Rattle.trace_text.specs.Lines as model
 use Rattle.store_face.specs.State.{Held, State, Rose}
 use Rattle.forge.specs.declared.command.Command as parsed
 use Rattle.forge.specs.declared.command.Command.TheVariants as commands
 use Rattle.forge.specs.declared.made.Counts.{Counts}
 use Rattle.forge.specs.declared.made.Made.{Made}
 use Rattle.forge.specs.declared.serial.MakeSerial.{MakeSerial}
+use Rattle.elf_file.specs.Messages.{message as elf_message}
+use Rattle.trace_text.specs.Messages.{message as line_message}
+use Rattle.trace_replay.specs.declared.verdict.ReplayFault.{ReplayFault}
+use Rattle.trace_replay.specs.declared.verdict.ReplayFault.TheVariants as faults
+use Rattle.forge.specs.declared.replaying.Replay.{Replay}
 use Rattle.forge.specs.declared.stop.Reason.{Reason}
-use Rattle.forge.specs.declared.stop.Reason.TheVariants.{NotBuilt}
+use Rattle.forge.specs.declared.stop.Reason.TheVariants.{NotBuilt, Elf, Line}
 use Rattle.forge.specs.declared.stop.Stop.{Stop}
 use Rattle.forge.specs.declared.stop.Stop.TheVariants.{Usage, Unread, Unwritten, Refused, TooLong, Memory}
-use Rattle.forge.specs.Words.{Command, Making, command_of, make_serial}
+use Rattle.forge.specs.Words.{Command, Making, Replaying, command_of, make_serial, replay}
 use Rattle.forge.specs.Generated.{IsCountOf}
 use Rattle.forge.specs.Ends.{Ending, usage, unread, unwritten, refused, too_long, out_of_memory, status_of, printed, inputs, most_bytes, length_fault, form_fault, input_fault, AreHeld, Output, LeftBy, IsRunFrom, Makes, Causes, NoCommand}
 
@@ -32,15 +37,22 @@ making_seen m = record {
 abbrev pub serial_seen : MakeSerial → Command
 serial_seen m = make_serial (making_seen m)
 
+-- what the words of replay were parsed into
+abbrev pub replaying_seen : Replay → Replaying
+replaying_seen r = record { elf = r.elf.now; order = r.order.now; trace = r.trace.now }
+
 -- the command that the words were parsed into
 abbrev pub command_seen : parsed.Command → Command
 command_seen (commands.MakeSerial m) = serial_seen m
+command_seen (commands.Replay r) = replay (replaying_seen r)
 
 -- ---- endings
 
 -- what `{}` shows of a reason
 abbrev pub reason_body : Reason → List ℕ
 reason_body NotBuilt = codes "not built yet"
+reason_body (Elf fault) = elf_message fault
+reason_body (Line fault) = line_message fault
 
 -- what a stop ends the command with
 abbrev pub ending_of : Stop → Ending
@@ -50,6 +62,13 @@ ending_of (Unwritten name) = unwritten name.now
 ending_of (Refused name reason) = refused name.now (reason_body reason)
 ending_of (TooLong name most) = too_long name.now most
 ending_of Memory = out_of_memory
+
+-- what a fault of one of the files of replay ends it with
+abbrev pub stop_ending : Replaying → ReplayFault → Ending
+stop_ending r (faults.Elf fault) = refused r.elf (elf_message fault)
+stop_ending r (faults.Order fault) = refused r.order (line_message fault)
+stop_ending r (faults.Trace fault) = refused r.trace (line_message fault)
+stop_ending r faults.Memory = out_of_memory
 
 -- the line of a stop, without its newline
 abbrev pub stop_body : Stop → List ℕ
@@ -74,8 +93,12 @@ abbrev pub IsCause : List (List ℕ) → State → State → Ending → Type 0
 IsCause words old new ending = MatchOption (command_of words) (NoCommand old new ending) (λ c. Causes c old new ending)
 
 -- what was run came to its end, of which it has told, or was stopped
-abbrev pub EndsBy : (Ending → Type 0) → Result (Unit {0}) Stop → List ℕ → Type 0
-EndsBy Cause result out = MatchResult result (λ _. (ending : Ending) × Cause ending × IsTold ending 0 out) (λ stop. Cause (ending_of stop))
+abbrev pub EndsBy : (Ending → Type 0) → Result ℕ Stop → List ℕ → Type 0
+EndsBy Cause result out = MatchResult result (λ status. (ending : Ending) × Cause ending × IsTold ending status out) (λ stop. Cause (ending_of stop))
+
+-- the same, where success has the status 0
+abbrev pub WritesBy : (Ending → Type 0) → Result (Unit {0}) Stop → List ℕ → Type 0
+WritesBy Cause result out = MatchResult result (λ _. (ending : Ending) × Cause ending × IsTold ending 0 out) (λ stop. Cause (ending_of stop))
 
 -- ---- reads
 
@@ -119,7 +142,7 @@ files_of m made =
 -- what make-serial made from the contents of both input files
 pub record IsMadeFrom (m : Making) (job trees : List ℕ) (made : Made) : Type 0 where
   pub harts : ℕ
-  pub lines : List Line
+  pub lines : List model.Line
   pub run : IsRunFrom m (job ∷ trees ∷ []) (files_of m made) harts lines
   pub counts : IsCountOf made.counts harts lines
 
@@ -129,7 +152,7 @@ pub record IsMade (c : Command) (old : State) (files : List Output) (counts : Co
   pub held : IfSome old.holds (λ before. AreHeld before (inputs c) contents)
   pub accepted : input_fault c contents ≡ None
   pub harts : ℕ
-  pub lines : List Line
+  pub lines : List model.Line
   pub made : Makes c contents files harts lines
   pub counted : IsCountOf counts harts lines
 

@@ -13,8 +13,15 @@ pub record Making : Type 0 where
   pub order : List ℕ
   pub trace : List ℕ
 
+-- the files of replay
+pub record Replaying : Type 0 where
+  pub elf : List ℕ
+  pub order : List ℕ
+  pub trace : List ℕ
+
 pub data Command : Type 0 where
   make_serial : Making → Command
+  replay : Replaying → Command
 
 -- the word is an option, which no command takes
 abbrev pub is_option : List ℕ → Bool
@@ -54,7 +61,15 @@ making_of (job ∷ trees ∷ seed_word ∷ elf ∷ order ∷ trace ∷ []) = do
       else None
 making_of words = None
 
+-- ELF ORDER TRACE
+abbrev pub replaying_of : List (List ℕ) → Option Replaying
+replaying_of (elf ∷ order ∷ trace ∷ []) =
+    if are_files (elf ∷ order ∷ trace ∷ []) then Some (record { elf = elf; order = order; trace = trace }) else None
+replaying_of words = None
+
 -- the command's name, and what it takes
 abbrev pub command_of : List (List ℕ) → Option Command
 command_of [] = None
-command_of (name ∷ words) = if bytes_eq name (codes "make-serial") then option_map make_serial (making_of words) else None
+command_of (name ∷ words) =
+    if bytes_eq name (codes "make-serial") then option_map make_serial (making_of words)
+    else (if bytes_eq name (codes "replay") then option_map replay (replaying_of words) else None)

@@ -1,5 +1,6 @@
 ghost use Rattle.std.specs.Prelude.{◌≡◌, map, option_map, string_bytes};
 
+use crate::replaying::Replay;
 use crate::serial::MakeSerial;
 use crate::stop::Stop;
 use std::alloc::Global;
@@ -9,6 +10,7 @@ use store_face::Store;
 #[derive(Clone, Copy, Debug)]
 pub(crate) enum Command<'a> {
     MakeSerial(MakeSerial<'a>),
+    Replay(Replay<'a>),
 }
 
 impl<'a> Command<'a> {
@@ -23,21 +25,26 @@ impl<'a> Command<'a> {
         let (name, words) = words.split_first()?;
         match name.as_str() {
             "make-serial" => MakeSerial::parse(words).map(Command::MakeSerial),
+            "replay" => Replay::parse(words).map(Command::Replay),
             _ => None,
         }
     }
 
-    /// Runs the command. Where it is well, `out` has the line to print.
+    /// Runs the command. Where it did what it was asked for, the result is its status, and `out` has the line to print.
     pub(crate) fn run<S: Store>(
         &self,
         alloc: Global,
         store: &mut S,
         out: &mut Vec<u8>,
-    ) -> Result<(), Stop<'a>>
+    ) -> Result<u8, Stop<'a>>
         ensures { EndsBy (Causes (command_seen self.now) (S.state store.old) (S.state store.new)) result out.new.items }
     {
         match self {
-            Command::MakeSerial(command) => command.run(alloc, store, out),
+            Command::MakeSerial(command) => {
+                command.run(alloc, store, out)?;
+                Ok(0)
+            }
+            Command::Replay(command) => command.run(alloc, store, out),
         }
     }
 }

@@ -6,6 +6,7 @@ mod files;
 mod line;
 mod made;
 mod making;
+mod replaying;
 mod serial;
 mod stop;
 #[cfg(test)]

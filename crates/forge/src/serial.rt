@@ -32,7 +32,7 @@ pub(crate) struct MakeSerial<'a> {
 }
 
 impl<'a> MakeSerial<'a> {
-    ghost use Rattle.forge.specs.Stops.{making_seen, serial_seen, ending_of, EndsBy, files_of, IsMade, IsMadeFrom, IsStoppedForm, Becomes, StopsLate};
+    ghost use Rattle.forge.specs.Stops.{making_seen, serial_seen, ending_of, WritesBy, files_of, IsMade, IsMadeFrom, IsStoppedForm, Becomes, StopsLate};
 
     /// What the words behind the command's name ask for, if they are JOB TREES SEED ELF ORDER TRACE.
     pub(crate) fn parse(words: &'a [String]) -> Option<MakeSerial<'a>>
@@ -70,7 +70,7 @@ impl<'a> MakeSerial<'a> {
         store: &mut S,
         out: &mut Vec<u8>,
     ) -> Result<(), Stop<'a>>
-        ensures { EndsBy (Causes (serial_seen self.now) (S.state store.old) (S.state store.new)) result out.new.items }
+        ensures { WritesBy (Causes (serial_seen self.now) (S.state store.old) (S.state store.new)) result out.new.items }
     {
         let made = self.make(alloc, store)?;
         write_line(alloc, made.counts, out)?;

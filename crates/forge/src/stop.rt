@@ -3,16 +3,22 @@ ghost use Rattle.forge.specs.declared.stop.Reason.TheVariants as reasons;
 ghost use Rattle.forge.specs.declared.stop.Stop.TheVariants.{Memory};
 
 use choice_tree::InputFault;
+use elf_file::ElfFault;
 use rv_fields::NoMemory;
 use std::alloc::AllocFailed;
 use std::fmt;
 use store_face::StoreFault;
+use trace_text::LineFault;
 
 /// Why a file isn't accepted.
 #[derive(Clone, Copy, Debug, PartialEq, Eq)]
 pub(crate) enum Reason {
     /// It holds what this program can't do yet, or nothing that it knows.
     NotBuilt,
+    /// It can't be loaded.
+    Elf(ElfFault),
+    /// It isn't the text of an order or of a trace.
+    Line(LineFault),
 }
 
 impl fmt::Display for Reason {
@@ -21,9 +27,11 @@ impl fmt::Display for Reason {
     ghost output = { λ reason. Some (reason_body reason) };
 
     fn fmt<W: fmt::Write>(&self, f: &mut fmt::Formatter<W>) -> fmt::Result {
-        f.write_str(match self {
-            Reason::NotBuilt => "not built yet",
-        })
+        match self {
+            Reason::NotBuilt => write!(f, "not built yet"),
+            Reason::Elf(fault) => write!(f, "{fault}"),
+            Reason::Line(fault) => write!(f, "{fault}"),
+        }
     }
 }
 

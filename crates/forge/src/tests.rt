@@ -9,6 +9,7 @@ use store_face::MemStore;
 mod boots;
 mod faults;
 mod harts;
+mod replays;
 
 const USAGE: &str =
     "usage: make|make-serial JOB TREES SEED ELF ORDER TRACE; replay ELF ORDER TRACE; big N JOB TREES; check JOB TREES\n";

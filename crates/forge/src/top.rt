@@ -13,7 +13,8 @@ use store_face::Store;
 ///
 /// | status | meaning |
 /// |---|---|
-/// | 0 | the three files are written |
+/// | 0 | the three files are written, or the trace tells what the program does |
+/// | 1 | the trace tells otherwise than the program does |
 /// | 3 | the words are no command's |
 /// | 4 | a file can't be read |
 /// | 5 | a file can't be written |
@@ -24,18 +25,18 @@ pub fn plain_top<S: Store>(alloc: Global, words: &[String], store: &mut S, out: 
     ensures { Ends (map string_bytes words.now) (S.state store.old) (S.state store.new) result out.new.items }
 {
     match run(alloc, words, store, out) {
-        Ok(()) => 0,
+        Ok(status) => status,
         Err(stop) => tell(alloc, stop, out),
     }
 }
 
-/// Runs the command that the words are.
+/// Runs the command that the words are. The result is the status of its success.
 fn run<'a, S: Store>(
     alloc: Global,
     words: &'a [String],
     store: &mut S,
     out: &mut Vec<u8>,
-) -> Result<(), Stop<'a>>
+) -> Result<u8, Stop<'a>>
     ensures { EndsBy (IsCause (map string_bytes words.entry.now) (S.state store.old) (S.state store.new)) result out.new.items }
 {
     let command = Command::parse(words).ok_or(Stop::Usage)?;

@@ -5,7 +5,7 @@ use Rattle.forge.proofs.top.plain_top.Goals as goal
 pub returns-in-Ok : goal.returns-in-Ok
 returns-in-Ok g c =
     let well = c.in-Ok.ensures in
-    ends (map string_bytes c.args.words.now) (g.S.Store.state c.args.store.now) (g.S.Store.state c.run.new.store) well.0 0 c.run.new.out.items well.1 well.2
+    ends (map string_bytes c.args.words.now) (g.S.Store.state c.args.store.now) (g.S.Store.state c.run.new.store) well.0 c.in-Ok.status c.run.new.out.items well.1 well.2
 
 pub returns-in-Err : goal.returns-in-Err
 returns-in-Err g c =
