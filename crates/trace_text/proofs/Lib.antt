@@ -18,7 +18,6 @@ pub mod Sound
 pub mod Spellings
 pub mod WordBytes
 pub mod OrderTexts
-pub mod Told
 pub mod OrdersTold
 pub mod Runs
 pub mod TraceTexts
@@ -28,3 +27,4 @@ pub mod Examples
 pub mod OrderExamples
 pub mod VisibleLines
 pub mod Unread
+pub mod TurnsRead

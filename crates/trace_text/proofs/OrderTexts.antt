@@ -148,7 +148,7 @@ pub runs_of : (harts : ℕ) (order : List ℕ) → AllByRecursion (λ hart. hart
 runs_of harts [] named = tt
 runs_of harts (hart ∷ order) named = runs_more harts hart (turns_of order) named.0 (runs_of harts order named.1)
 
-pub steps_more : (t : Turns) (ts : List Turns) → length (flat_map steps_in (t ∷ ts)) ≡ t.count + length (flat_map steps_in ts)
+steps_more : (t : Turns) (ts : List Turns) → length (flat_map steps_in (t ∷ ts)) ≡ t.count + length (flat_map steps_in ts)
 steps_more t ts = length-append (steps_in t) (flat_map steps_in ts) ∙ ap (λ n. n + length (flat_map steps_in ts)) (length-replicate t.count t.hart)
 
 pub turns_from_runs : (harts : ℕ) (last : Option ℕ) (steps : ℕ) (ts : List Turns) → AreRuns harts ts → Begins last ts

@@ -1,10 +1,10 @@
 -- The order that a text tells, and the text that tells an order.
-use Rattle.std.proofs.Common.{◌≡◌, ℕ, ◌+◌, ◌≤◌, List, [], ◌∷◌, ◌++◌, length, replicate, refl, sym, ap, subst, ◌∙◌, arith, append_assoc, None, get_or, drop, Result, Ok, Err}
-use Rattle.std.specs.Prelude.{MatchResult, IfOk, codes}
+use Rattle.std.proofs.Common.{◌≡◌, ℕ, ◌+◌, ◌≤◌, List, [], ◌∷◌, ◌++◌, length, replicate, refl, sym, ap, ◌∙◌, arith, None, get_or, drop, Result, Ok, Err}
+use Rattle.std.specs.Prelude.{MatchResult, codes}
 use Rattle.std.proofs.lemmas.Option.{none-some}
 use Rattle.trace_text.specs.declared.fault.LineFault.{LineFault}
 use Rattle.trace_text.specs.declared.fault.LineFault.TheVariants.{At, Memory}
-use Rattle.trace_text.specs.Reading.{Tells, IsFault}
+use Rattle.trace_text.specs.Reading.{IsFault}
 use Rattle.std.specs.List.{flat_map}
 use Rattle.std.proofs.lemmas.List.{length-append, length-replicate}
 use Rattle.trace_text.specs.Fields.{lines_of_text, fields_of, fault_from}
@@ -14,17 +14,7 @@ use Rattle.trace_text.specs.Fields.{first_fault}
 use Rattle.trace_text.proofs.Faults.{step}
 use Rattle.trace_text.proofs.WordBytes.{IsVisible}
 use Rattle.trace_text.proofs.VisibleLines.{header_body, header_number, header_right, header_cut}
-use Rattle.trace_text.proofs.Told.{spelled}
 use Rattle.trace_text.proofs.OrderTexts.{turns_are, no_fault, told_steps, steps_of_turns}
-
--- one line more is told
-pub told_on : (order more rest first behind whole : List ℕ)
-    → order ++ flat_map steps_of (lines_of_text rest) ≡ whole → lines_of_text rest ≡ first ∷ lines_of_text behind
-    → more ≡ order ++ steps_of first → more ++ flat_map steps_of (lines_of_text behind) ≡ whole
-told_on order more rest first behind whole told cut is =
-    let tail = flat_map steps_of (lines_of_text behind) in
-    ap (λ (l : List ℕ). l ++ tail) is ∙ append_assoc order (steps_of first) tail
-    ∙ ap (λ (ls : List (List ℕ)). order ++ flat_map steps_of ls) (sym cut) ∙ told
 
 -- so many steps as are counted
 pub counted : (order : List ℕ) (count hart : ℕ) → length (order ++ replicate count hart) ≡ length order + count
@@ -57,21 +47,15 @@ told harts order is =
     )
 
 -- What the reader answers with, where `items` shows the vector's elements.
-module _ {V : Type 0} (items : V → List ℕ) (text : List ℕ) where
-  pub read_is : (r : Result (ℕ × V) LineFault) → MatchResult r (λ read. Tells text read.0 (items read.1)) (λ fault. IsFault (order_fault text) fault)
-      → IfOk r (λ read. IsOrder read.0 (items read.1) × (text ≡ order_text read.0 (items read.1)))
-  read_is (Ok read) tells =
-      let P : ℕ → Type 0 = λ harts. IsOrder harts (items read.1) × (text ≡ order_text harts (items read.1)) in
-      let Q : List ℕ → Type 0 = λ order. IsOrder (harts_told text) order × (text ≡ order_text (harts_told text) order) in
-      subst P (sym tells.harts_are) (subst Q (sym tells.order_is) (spelled text tells.sound))
-  read_is (Err fault) tells = tt
-
-  pub again_is : (r : Result (ℕ × V) LineFault) → MatchResult r (λ read. Tells text read.0 (items read.1)) (λ fault. IsFault (order_fault text) fault)
-      → (harts : ℕ) (order : List ℕ) → IsOrder harts order → text ≡ order_text harts order
-      → MatchResult r (λ read. (read.0 ≡ harts) × (items read.1 ≡ order)) (λ fault. fault ≡ Memory)
-  again_is (Ok read) tells harts order is same =
-      let parts = told harts order is in
-      (tells.harts_are ∙ ap harts_told same ∙ parts.1, tells.order_is ∙ ap order_told same ∙ parts.2)
-  again_is (Err Memory) tells harts order is same = refl
-  again_is (Err (At l f)) tells harts order is same =
-      absurd (none-some (record { line = l; field = f }) (sym (told harts order is).0 ∙ ap order_fault (sym same) ∙ tells))
+pub again_is : {V : Type 0} (items : V → List ℕ) (text : List ℕ) (r : Result (ℕ × V) LineFault)
+    → MatchResult r (λ read. IsOrder read.0 (items read.1) × (text ≡ order_text read.0 (items read.1))) (λ fault. IsFault (order_fault text) fault)
+    → (harts : ℕ) (order : List ℕ) → IsOrder harts order → text ≡ order_text harts order
+    → MatchResult r (λ read. (read.0 ≡ harts) × (items read.1 ≡ order)) (λ fault. fault ≡ Memory)
+again_is items text (Ok read) reads harts order is same =
+    let mine = told read.0 (items read.1) reads.0 in
+    let parts = told harts order is in
+    let texts : order_text read.0 (items read.1) ≡ order_text harts order = sym reads.1 ∙ same in
+    (sym mine.1 ∙ ap harts_told texts ∙ parts.1, sym mine.2 ∙ ap order_told texts ∙ parts.2)
+again_is items text (Err Memory) reads harts order is same = refl
+again_is items text (Err (At l f)) reads harts order is same =
+    absurd (none-some (record { line = l; field = f }) (sym (told harts order is).0 ∙ ap order_fault (sym same) ∙ reads))

@@ -23,7 +23,7 @@ another : (hart next count : ℕ) (ts : List Turns) → hart ≢ next → with_t
 another hart next count ts other = rw (ne_eqb next hart (λ e. other (sym e)))
 
 -- a run ends where the next hart is another
-ends_before : (hart next : ℕ) (ts : List Turns) → hart ≢ next → with_turn hart (with_turn next ts) ≡ turns hart 1 ∷ with_turn next ts
+pub ends_before : (hart next : ℕ) (ts : List Turns) → hart ≢ next → with_turn hart (with_turn next ts) ≡ turns hart 1 ∷ with_turn next ts
 ends_before hart next [] other = another hart next 1 [] other
 ends_before hart next (t ∷ ts) other = elim (cases_eq t.hart next) [
   | inl same ↦ rw (eq-eqb t.hart next same) (another hart next (t.count + 1) ts other)

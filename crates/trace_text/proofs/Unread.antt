@@ -18,7 +18,7 @@ pub reads_none : (u : Unread) → HasRead [] u u
 reads_none u = record { harts = refl; are = tt; number = omega arith; text_is = refl; fault = refl }
 
 -- the text of fields that a newline ends, and what is behind
-ended_text : (fields : List (List ℕ)) (rest first behind : List ℕ) → lines_of_text rest ≡ first ∷ lines_of_text behind → fields_of first ≡ fields
+pub ended_text : (fields : List (List ℕ)) (rest first behind : List ℕ) → lines_of_text rest ≡ first ∷ lines_of_text behind → fields_of first ≡ fields
     → rest ≡ (joined_by space_byte fields ++ newline) ++ behind
 ended_text fields rest first behind cut are =
     cut_text rest first behind cut ∙ ap (λ (f : List ℕ). f ++ 0x0a ∷ behind) (fields_text first fields are) ∙ sym (append_assoc (joined_by space_byte fields) newline behind)

@@ -7,7 +7,7 @@ use Rattle.trace_text.specs.declared.line.Line as code
 use Rattle.trace_text.specs.declared.trace_lines.TraceLines.{TraceLines}
 use Rattle.trace_text.specs.Fields.{Test, Place, first_wrong, fault_from, lines_of_text}
 use Rattle.trace_text.specs.Lines.{Line}
-use Rattle.trace_text.specs.Orders.{order_form, turns, steps_of, order_fault, order_told, harts_told, most_harts}
+use Rattle.trace_text.specs.Orders.{order_form, turns, most_harts}
 use Rattle.trace_text.specs.Text.{header_text, line_text}
 use Rattle.trace_text.specs.Traces.{IsLine, trace_fault, trace_form}
 use Rattle.trace_text.specs.Views.{line_seen}
@@ -22,20 +22,9 @@ abbrev pub IsFaultIn : List Test → ℕ → List (List ℕ) → LineFault → T
 IsFaultIn tests line fields (At l f) = (l ≡ line) × (first_wrong 1 tests fields ≡ Some f)
 IsFaultIn tests line fields Memory = Unit {0}
 
--- the text has no fault, and tells this order of so many harts
-pub record Tells (text : List ℕ) (harts : ℕ) (order : List ℕ) : Type 0 where
-  pub sound : order_fault text ≡ None
-  pub harts_are : harts ≡ harts_told text
-  pub order_is : order ≡ order_told text
-
 -- the fault of the lines behind the first, where the first tells so many harts
 abbrev pub turns_fault : ℕ → List ℕ → Option Place
 turns_fault harts lines = fault_from order_form (turns harts None 0) 2 (lines_of_text lines)
-
--- the lines behind the first have no fault, and tell this order
-pub record TellsTurns (harts : ℕ) (lines order : List ℕ) : Type 0 where
-  pub sound : turns_fault harts lines ≡ None
-  pub order_is : order ≡ flat_map steps_of (lines_of_text lines)
 
 -- What of a trace of so many harts isn't read yet: the number of its first line, and the text from that line on.
 pub record Unread : Type 0 where

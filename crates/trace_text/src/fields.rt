@@ -1,5 +1,5 @@
 //! The fields of a line, taken one after another.
-ghost use Rattle.std.specs.Prelude.{◌≡◌, ◌+◌, ◌<◌, ◌≤◌, ◌^◌, [], true, List, ℕ, MatchResult, IfSome, length};
+ghost use Rattle.std.specs.Prelude.{◌≡◌, ◌≢◌, ◌+◌, ◌<◌, ◌≤◌, ◌^◌, [], true, List, ℕ, MatchResult, IfSome, length};
 ghost use Rattle.std.specs.List.{flat_map, AllByRecursion};
 ghost use Rattle.std.specs.Fmt.{decimal};
 ghost use Rattle.std.specs.Str.Parse.{digits_value};
@@ -245,7 +245,8 @@ impl<'a> Fields<'a> {
     pub(crate) fn other_hart(&mut self, harts: u8, last: Option<u8>) -> Result<u8, LineFault>
         requires { self.old.number < 100 }
         ensures { MatchResult result
-            (λ hart. (field : List ℕ) × Took self.old self.new field × (is_another_hart harts last field ≡ true) × (hart ≡ digits_value 10 field) × (hart < harts))
+            (λ hart. (field : List ℕ) × Took self.old self.new field × (is_another_hart harts last field ≡ true) × (hart ≡ digits_value 10 field) × (hart < harts)
+            × IfSome last (λ before. before ≢ hart))
             (λ fault. Lacks (is_another_hart harts last) self.old fault) }
     {
         let fault = self.fault();

@@ -1,8 +1,10 @@
-ghost use Rattle.std.specs.Prelude.{◌≡◌, ℕ, ◌<◌, ◌≤◌, ◌+◌, ◌++◌, ◌^◌, length, replicate, OnOk, List, Some, None, IfOk, IfErr, MatchResult};
-ghost use Rattle.trace_text.specs.Text.{order_text};
+ghost use Rattle.std.specs.Prelude.{◌≡◌, ◌≢◌, ℕ, ◌<◌, ◌≤◌, ◌+◌, ◌++◌, ◌∷◌, [], ◌^◌, length, replicate, OnOk, List, Some, None, All, IfSome, IfOk, IfErr, MatchResult};
+ghost use Rattle.std.specs.List.{flat_map};
+ghost use Rattle.std.specs.Fmt.{decimal};
+ghost use Rattle.trace_text.specs.Text.{order_text, turns_of, turns_text};
 ghost use Rattle.trace_text.specs.Fields.{fields_of, first_wrong};
-ghost use Rattle.trace_text.specs.Orders.{IsOrder, turns, nothing, order_form, order_fault, order_tests, number_in};
-ghost use Rattle.trace_text.specs.Reading.{Tells, TellsTurns, IsFault, IsFaultIn, turns_fault};
+ghost use Rattle.trace_text.specs.Orders.{IsOrder, turns, nothing, order_form, order_fault, order_tests, number_in, most_steps};
+ghost use Rattle.trace_text.specs.Reading.{IsFault, IsFaultIn, turns_fault};
 
 use crate::fault::LineFault;
 use crate::fields::Fields;
@@ -35,7 +37,9 @@ pub fn read_order(alloc: Global, bytes: &[u8]) -> Result<(u8, Vec<u8>), LineFaul
 
 /// As `read_order`.
 fn read_lines(alloc: Global, bytes: &[u8]) -> Result<(u8, Vec<u8>), LineFault>
-    ensures { MatchResult result (λ read. Tells bytes.now read.0 read.1.items) (λ fault. IsFault (order_fault bytes.now) fault) }
+    ensures { MatchResult result
+        (λ read. IsOrder read.0 read.1.items × (bytes.now ≡ order_text read.0 read.1.items))
+        (λ fault. IsFault (order_fault bytes.now) fault) }
 {
     let Some((first, behind)) = cut(bytes, b'\n') else {
         return Err(at_end(1, header(bytes, "order").err(), HEADER_FIELDS));
@@ -47,7 +51,9 @@ fn read_lines(alloc: Global, bytes: &[u8]) -> Result<(u8, Vec<u8>), LineFault>
 
 /// Reads the lines behind the first.
 fn read_turns(alloc: Global, harts: u8, lines: &[u8]) -> Result<Vec<u8>, LineFault>
-    ensures { MatchResult result (λ order. TellsTurns harts lines.now order.items) (λ fault. IsFault (turns_fault harts lines.now) fault) }
+    ensures { MatchResult result
+        (λ order. All (λ hart. hart < harts) order.items × (length order.items ≤ most_steps) × (lines.now ≡ flat_map turns_text (turns_of order.items)))
+        (λ fault. IsFault (turns_fault harts lines.now) fault) }
 {
     let mut rest = lines;
     let mut order = Vec::new(alloc);
@@ -88,7 +94,9 @@ fn turns_of(
     ensures { let fields = fields_of text.now in
         let tests = order_tests (turns harts last steps) fields in
         MatchResult result
-        (λ told. (first_wrong 1 tests fields ≡ None) × (told.hart ≡ number_in fields 0) × (told.count ≡ number_in fields 1) × (told.count + steps ≤ 1048576))
+        (λ told. (first_wrong 1 tests fields ≡ None) × (told.hart ≡ number_in fields 0) × (told.count ≡ number_in fields 1)
+        × (fields ≡ decimal told.hart ∷ decimal told.count ∷ []) × (told.hart < harts) × (1 ≤ told.count) × (told.count + steps ≤ 1048576)
+        × IfSome last (λ before. before ≢ told.hart))
         (λ fault. IsFaultIn tests line fields fault) }
 {
     let mut fields = Fields::of(line, text);

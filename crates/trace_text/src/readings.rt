@@ -1,5 +1,5 @@
 //! What the fields of a trace tell.
-ghost use Rattle.std.specs.Prelude.{◌≡◌, ◌++◌, ◌∷◌, [], ◌≤◌, ◌<◌, ◌*◌, ◌^◌, option_map, IfOk, Some, MatchOption, true, false};
+ghost use Rattle.std.specs.Prelude.{◌≡◌, ◌≢◌, ◌++◌, ◌∷◌, [], ◌≤◌, ◌<◌, ◌*◌, ◌^◌, option_map, IfOk, IfSome, Some, MatchOption, true, false};
 ghost use Rattle.std.specs.Str.Parse.{digits_value};
 ghost use Rattle.trace_text.specs.Trails.{entry_seen};
 ghost use Rattle.trace_text.specs.Text.{none_text, kind_text, cause_text};
@@ -336,7 +336,7 @@ fn first_pair(text: &[u8]) -> Option<(&[u8], &[u8])>
 /// The hart that the field names, one of so many and not the last.
 pub(crate) fn other_hart(field: &[u8], harts: u8, last: Option<u8>) -> Option<u8>
     ensures { MatchOption result (is_another_hart harts last field.now ≡ false)
-        (λ hart. (is_another_hart harts last field.now ≡ true) × (hart < harts) × (hart ≡ digits_value 10 field.now)) }
+        (λ hart. (is_another_hart harts last field.now ≡ true) × (hart < harts) × (hart ≡ digits_value 10 field.now) × IfSome last (λ before. before ≢ hart)) }
 {
     let hart = decimal_below(field, u64::from(harts))? as u8;
     if last == Some(hart) { None } else { Some(hart) }

@@ -1,11 +1,11 @@
 use Rattle.std.proofs.Common.{◌≡◌, ◌+◌, ◌++◌, length, None, Some, arith, ◌∙◌, sym, ap, subst, replicate}
-use Rattle.std.specs.List.{flat_map}
 use Rattle.trace_text.specs.Fields.{fields_of, lines_of_text, fault_from, wrong_in}
-use Rattle.trace_text.specs.Orders.{order_form, turns, steps_of, number_in, order_tests}
+use Rattle.trace_text.specs.Orders.{order_form, turns, number_in, order_tests}
 use Rattle.trace_text.specs.Reading.{turns_fault, IsFaultIn}
 use Rattle.trace_text.proofs.Faults.{stops_here, goes_on}
 use Rattle.trace_text.proofs.Taken.{handed_on}
-use Rattle.trace_text.proofs.OrdersTold.{told_on, counted}
+use Rattle.trace_text.proofs.OrdersTold.{counted}
+use Rattle.trace_text.proofs.TurnsRead.{HasTurns, reads_turn}
 use Rattle.trace_text.proofs.orders.read_turns.Goals as goal
 
 pub returns-in_err-turns : goal.returns-in_err-turns
@@ -49,8 +49,8 @@ loop-first-preserved c =
     record {
       behind = omega (arith, before.behind);
       within = omega (arith, before.within, c.in-Some.ensures.shorter);
-      short = omega (arith, longer, steps, told.3);
+      short = omega (arith, longer, steps, told.6);
       fault = ap (λ k. fault_from order_form k (c.loop-first.line + 1) (lines_of_text behind)) known ∙ left;
-      told = told_on order more rest first behind (flat_map steps_of (lines_of_text c.args.lines.now)) before.told c.in-Some.ensures.parts
-          (is ∙ ap (λ n. order ++ replicate n hart) told.2 ∙ ap (λ h. order ++ replicate (number_in fields 1) h) told.1);
+      turns = subst (λ order. HasTurns harts (Some hart) order c.args.lines.now behind) (sym is)
+          (reads_turn before.turns hart count told.5 told.7 first behind c.in-Some.ensures.parts told.3 told.4);
     }
