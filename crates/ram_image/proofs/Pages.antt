@@ -10,6 +10,10 @@ use borrow.Rule.Slice.PartMut.{put_mid}
 use Rattle.rv_fields.specs.Memory.{ram_start, ram_end, in_ram}
 use Rattle.ram_image.specs.Ram.{Page, page_byte, page_at}
 
+-- how many pages RAM has
+abbrev pub page_count : ℕ
+page_count = (ram_end - ram_start) / 4096
+
 -- a place of a list in which a part was written
 get_or-put_mid_below : (a k : ℕ) (xs ys : List ℕ) (i : ℕ) → a + k ≤ length xs → i < a → get_or (put_mid a k xs ys) i 0 ≡ get_or xs i 0
 get_or-put_mid_below a k xs ys i within below = grind (arith, places)
@@ -120,7 +124,7 @@ byte_of pages a = page_byte (page_at pages a) ((a - ram_start) % 4096)
 
 -- a page with a byte at each place, put in place of the page that was kept for an address
 pub page_written : (pages : List Page) (at to : ℕ) (bytes : List ℕ) (kept written : Box (List ℕ) Global) (a : ℕ)
-    → ram_start ≤ at → at < ram_end → (at - ram_start) % 4096 + (to - at) ≤ 4096 → length pages ≡ 65536
+    → ram_start ≤ at → at < ram_end → (at - ram_start) % 4096 + (to - at) ≤ 4096 → length pages ≡ page_count
     → page_at pages at ≡ Some kept
     → ((k : ℕ) → get_or written.value k 0
     ≡ (if leb ((at - ram_start) % 4096) k && ltb k ((at - ram_start) % 4096 + (to - at)) then get_or bytes (k - (at - ram_start) % 4096) 0 else get_or kept.value k 0))
@@ -170,14 +174,8 @@ page_written pages at to bytes kept written a at_inside at_within in_page whole 
       ]
     ]
 
--- where the addresses of RAM lie
-pub inside_parts : (at size : ℕ) → IsTrue (in_ram at size) → (ram_start ≤ at) × (at + size ≤ ram_end)
-inside_parts at size inside =
-    let both = and_parts (leb ram_start at) (leb (at + size) ram_end) inside in
-    (leb-true ram_start at both.0, leb-true (at + size) ram_end both.1)
-
 -- the page that is read from the place of an address is the page of the address
-pub page_at_is : (pages : List Page) (at : ℕ) (page : Page) → ram_start ≤ at → at < ram_end → length pages ≡ 65536
+pub page_at_is : (pages : List Page) (at : ℕ) (page : Page) → ram_start ≤ at → at < ram_end → length pages ≡ page_count
     → page ≡ get_or pages ((at - ram_start) / 4096) page → page_at pages at ≡ page
 unfolding page_at
 page_at_is pages at page inside within whole read =
@@ -187,7 +185,7 @@ page_at_is pages at page inside within whole read =
 
 -- a page of zeros in place of none changes no byte
 pub zeros_placed : (pages : List Page) (at : ℕ) (zeros : Box (List ℕ) Global) (a : ℕ)
-    → ram_start ≤ at → at < ram_end → length pages ≡ 65536 → page_at pages at ≡ None → zeros.value ≡ replicate 4096 0
+    → ram_start ≤ at → at < ram_end → length pages ≡ page_count → page_at pages at ≡ None → zeros.value ≡ replicate 4096 0
     → byte_of (set pages ((at - ram_start) / 4096) (Some zeros)) a ≡ byte_of pages a
 unfolding byte_of
 zeros_placed pages at zeros a at_inside within whole none all_zeros =
@@ -205,14 +203,14 @@ zeros_placed pages at zeros a at_inside within whole none all_zeros =
     ]
 
 -- a page that is put somewhere is kept, and so is every page that was
-pub kept_here : (pages : List Page) (at a : ℕ) (page : Box (List ℕ) Global) → ram_start ≤ at → at < ram_end → length pages ≡ 65536 → a / 4096 ≡ at / 4096
+pub kept_here : (pages : List Page) (at a : ℕ) (page : Box (List ℕ) Global) → ram_start ≤ at → at < ram_end → length pages ≡ page_count → a / 4096 ≡ at / 4096
     → IsSome (page_at (set pages ((at - ram_start) / 4096) (Some page)) a)
 kept_here pages at a page inside within whole same =
     let a_inside : ram_start ≤ a = omega arith in
     let place : (a - ram_start) / 4096 ≡ (at - ram_start) / 4096 = omega arith in
     subst IsSome (sym (page_at-set_same pages at a (Some page) a_inside place (omega arith))) refl
 
-pub kept_there : (pages : List Page) (at : ℕ) (page : Box (List ℕ) Global) (a : ℕ) → at < ram_end → length pages ≡ 65536
+pub kept_there : (pages : List Page) (at : ℕ) (page : Box (List ℕ) Global) (a : ℕ) → at < ram_end → length pages ≡ page_count
     → IsSome (page_at pages a) → IsSome (page_at (set pages ((at - ram_start) / 4096) (Some page)) a)
 kept_there pages at page a within whole kept =
     let place = (at - ram_start) / 4096 in

@@ -3,21 +3,16 @@ ghost use Rattle.ram_image.specs.Segments.{memory_of, stretches, laid_over};
 ghost use Rattle.rv_fields.specs.Memory.{in_ram, number_of, told, whole, stored, IsSize, ram_start, ram_end};
 
 use crate::segment::Segment;
-use rv_fields::NoMemory;
+use rv_fields::{NoMemory, RAM_END, RAM_START, in_ram};
 use std::alloc::Global;
-
-/// The first address of RAM.
-const RAM_START: u64 = 0x8000_0000;
-
-/// The first address past RAM.
-const RAM_END: u64 = 0x9000_0000;
 
 const PAGE_SIZE: usize = 4096;
 
 /// The size of a page, for addresses.
 const PAGE: u64 = 4096;
 
-const PAGE_COUNT: usize = 0x1_0000;
+/// How many pages RAM has.
+const PAGE_COUNT: usize = ((RAM_END - RAM_START) / PAGE) as usize;
 
 /// A page of zeros: room for stores to one page of RAM, which needs no memory any more.
 #[derive(Drop)]
@@ -37,7 +32,7 @@ impl Spare {
 #[derive(Drop)]
 pub struct Ram {
     pages: Vec<Option<Box<[u8; PAGE_SIZE]>>>,
-    ghost whole: { length pages.items ≡ 65536 },
+    ghost whole: { length pages.items ≡ (ram_end - ram_start) / 4096 },
 }
 
 impl Ram {
@@ -51,7 +46,7 @@ impl Ram {
         ensures inside { IsSome result ↔ IsTrue (in_ram at size) }
         ensures small { IfSome result (λ number. number < 2 ^ (8 * size)) }
     {
-        if !is_inside(at, size) {
+        if !in_ram(at, u64::from(size)) {
             return None;
         }
         let place = (at - RAM_START) as usize;
@@ -147,7 +142,7 @@ impl Ram {
     pub fn holds(&self, at: u64, size: u8) -> bool
         ensures { result ≡ in_ram at size }
     {
-        is_inside(at, size)
+        in_ram(at, u64::from(size))
     }
 
     /// Whether there is room for stores to the page of the address.
@@ -165,7 +160,7 @@ impl Ram {
         ensures stays { (a : ℕ) → IsTrue (is_reserved self.old a) → IsTrue (is_reserved self.new a) }
         ensures same { (a : ℕ) → memory self.new a ≡ memory self.old a }
     {
-        if !is_inside(at, 1) {
+        if !in_ram(at, 1) {
             return Ok(());
         }
         if !self.is_reserved(at) {
@@ -229,13 +224,6 @@ impl Ram {
             put_in(&mut kept[..], first, past, bytes);
         }
     }
-}
-
-/// Whether so many bytes from the address on lie in RAM.
-fn is_inside(at: u64, size: u8) -> bool
-    ensures { result ≡ in_ram at size }
-{
-    RAM_START <= at && at <= RAM_END && u64::from(size) <= RAM_END - at
 }
 
 /// The bytes from one place up to another, as far as there are any.

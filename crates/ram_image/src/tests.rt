@@ -1,5 +1,5 @@
 use super::*;
-use rv_fields::NoMemory;
+use rv_fields::{NoMemory, RAM_END, RAM_START};
 use std::alloc::Global;
 use std::test::*;
 
@@ -39,11 +39,11 @@ fn outside_ram_there_is_nothing(rt: HostRuntime) -> Result<(), Fail> {
     let ram = Ram::from_segments(alloc, &segments)?;
     assert_eq!(rt; ram.load(0x7fff_ffff, 1), None);
     assert_eq!(rt; ram.load(0x7fff_fffc, 8), None);
-    assert_eq!(rt; ram.load(0x8000_0000, 2), Some(0x0403));
+    assert_eq!(rt; ram.load(RAM_START, 2), Some(0x0403));
     assert_eq!(rt; ram.load(0x8fff_ffff, 1), Some(0));
     assert_eq!(rt; ram.load(0x8fff_ffff, 2), None);
     assert_eq!(rt; ram.load(0x8fff_fffc, 8), None);
-    assert_eq!(rt; ram.load(0x9000_0000, 1), None);
+    assert_eq!(rt; ram.load(RAM_END, 1), None);
     assert_eq!(rt; ram.load(u64::MAX, 8), None);
     Ok(())
 }
@@ -52,10 +52,10 @@ fn outside_ram_there_is_nothing(rt: HostRuntime) -> Result<(), Fail> {
 fn the_first_of_two_segments_counts(rt: HostRuntime) -> Result<(), Fail> {
     let alloc = rt.alloc();
     let over = segment(alloc, 0x8000_0002, &[7], 2)?;
-    let under = segment(alloc, 0x8000_0000, &[1, 2, 3, 4, 5, 6, 7, 8], 8)?;
+    let under = segment(alloc, RAM_START, &[1, 2, 3, 4, 5, 6, 7, 8], 8)?;
     let segments = vec![in alloc; over, under]?;
     let ram = Ram::from_segments(alloc, &segments)?;
-    assert_eq!(rt; ram.load(0x8000_0000, 8), Some(0x0807_0605_0007_0201));
+    assert_eq!(rt; ram.load(RAM_START, 8), Some(0x0807_0605_0007_0201));
     Ok(())
 }
 
@@ -71,15 +71,15 @@ fn bytes_are_laid_over_others(rt: HostRuntime) -> Result<(), Fail> {
     ram.lay(alloc, 0x8000_0ffc, &[], 8)?;
     assert_eq!(rt; ram.load(0x8000_0ffc, 8), Some(0));
     // more bytes than addresses
-    ram.lay(alloc, 0x8000_0000, &[1, 2, 3], 2)?;
-    assert_eq!(rt; ram.load(0x8000_0000, 4), Some(0x0201));
+    ram.lay(alloc, RAM_START, &[1, 2, 3], 2)?;
+    assert_eq!(rt; ram.load(RAM_START, 4), Some(0x0201));
     Ok(())
 }
 
 #[test]
 fn stores_change_their_bytes(rt: HostRuntime) -> Result<(), Fail> {
     let alloc = rt.alloc();
-    let ones = segment(alloc, 0x8000_0000, &[0x11; 24], 24)?;
+    let ones = segment(alloc, RAM_START, &[0x11; 24], 24)?;
     let segments = vec![in alloc; ones]?;
     let mut ram = Ram::from_segments(alloc, &segments)?;
     ram.reserve(alloc, 0x8000_0008)?;
@@ -102,7 +102,7 @@ fn room_is_made_anywhere(rt: HostRuntime) -> Result<(), Fail> {
     ram.reserve(alloc, 0x8fff_ffff)?;
     ram.store(0x8fff_fff8, 8, 0x0123_4567_89ab_cdef);
     assert_eq!(rt; ram.load(0x8fff_fffc, 4), Some(0x0123_4567));
-    ram.reserve(alloc, 0x9000_0000)?;
-    assert_eq!(rt; ram.load(0x9000_0000, 1), None);
+    ram.reserve(alloc, RAM_END)?;
+    assert_eq!(rt; ram.load(RAM_END, 1), None);
     Ok(())
 }

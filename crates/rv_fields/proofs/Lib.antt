@@ -9,6 +9,8 @@ pub mod OneCsr
 pub mod Names
 pub mod StepExamples
 pub mod Options
+pub mod Lists
+pub mod Updated
 pub mod Course
 pub mod MoreTold
 pub mod Opened

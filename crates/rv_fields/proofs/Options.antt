@@ -1,5 +1,6 @@
 -- Steps that may find nothing: what one finds that did.
 use Rattle.std.proofs.Common.{◌≡◌, Bool, true, false, cond, Option, Some, None, option_map, refl, sym, ap, subst, ◌∙◌}
+use Rattle.std.specs.Option.{option_or}
 use Rattle.rv_fields.specs.Attempt.{◌>>=◌}
 use Rattle.rv_fields.specs.Laws.{Below}
 
@@ -65,3 +66,13 @@ always_map P f (Some a) h b e = subst P (let same : f a ≡ b = cc in same) (h a
 pub always_bind : {A B : Type 0} (P : B → Type 0) (m : Option A) (f : A → Option B) → ((a : A) → m ≡ Some a → Always P (f a)) → Always P (m >>= f)
 always_bind P None f h b e = absurd cc
 always_bind P (Some a) f h b e = h a refl b e
+
+-- ---- the first of some that is there
+
+pub or_none : {A : Type 0} (m : Option A) → option_or m None ≡ m
+or_none None = refl
+or_none (Some a) = refl
+
+pub or_assoc : {A : Type 0} (m n o : Option A) → option_or m (option_or n o) ≡ option_or (option_or m n) o
+or_assoc None n o = refl
+or_assoc (Some a) n o = refl

@@ -5,7 +5,7 @@ use Rattle.rv_fields.specs.declared.mode.Mode.TheVariants.{M}
 use Rattle.rv_fields.specs.CsrFile.{reset}
 use Rattle.rv_fields.specs.Effect.{Effect}
 use Rattle.rv_fields.specs.Hart.{Hart, updated}
-use Rattle.rv_fields.specs.Memory.{Seen, after_access}
+use Rattle.rv_fields.specs.Memory.{Seen, after_access, ram_start}
 use Rattle.rv_fields.specs.Step.{step, Stepped}
 
 -- what is told of memory and links, and the harts by their numbers
@@ -29,7 +29,11 @@ Plays machine (h ∷ order) [] end = ⊥
 
 -- the address at which harts begin
 abbrev pub reset_pc : ℕ
-reset_pc = 0x80000000
+reset_pc = ram_start
+
+-- the most harts that a job, an order or a trace has
+abbrev pub most_harts : ℕ
+most_harts = 16
 
 -- The hart stands at reset: in mode M, without a reservation, and with any values in its registers. Its CSRs are what
 -- writes of any raw values leave, but for MIE and MPRV in mstatus, which are 0, and mhartid, which is its number.

@@ -1,3 +1,2 @@
-pub mod Lists
 pub mod Standing
 pub mod Made

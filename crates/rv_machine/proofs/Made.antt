@@ -7,7 +7,7 @@ use Rattle.rv_step.specs.declared.hart.Hart.{Hart}
 use Rattle.rv_step.specs.Views.{hart_seen}
 use Rattle.rv_machine.specs.declared.reset.Reset.{Reset}
 use Rattle.rv_machine.specs.Views.{hart_in, no_hart, reset_hart}
-use Rattle.rv_machine.proofs.Lists.{get_of_set_other, get_of_set_same}
+use Rattle.rv_fields.proofs.Lists.{get_of_set_other, get_of_set_same}
 
 -- the hart is as its reset makes it
 pub record IsMade (resets : List Reset) (h : ℕ) (hart : Hart) : Type 0 where

@@ -3,11 +3,8 @@ ghost use Rattle.rv_step.specs.Views.{hart_seen};
 ghost use Rattle.rv_machine.specs.Views.{reset_hart};
 
 use rv_csr::reset_of;
-use rv_fields::Mode;
+use rv_fields::{Mode, RESET_PC};
 use rv_step::Hart;
-
-/// The address at which harts begin.
-const RESET_PC: u64 = 0x8000_0000;
 
 /// What stands in the registers of a hart at reset: anything.
 #[derive(Clone, Copy, Debug, PartialEq, Eq)]

@@ -2,6 +2,7 @@
 use Rattle.std.proofs.Common.{ℕ, ◌+◌, ◌<◌, ◌≤◌, ◌≡◌, ◌≢◌, Bool, true, false, cond, eqb, List, [], ◌∷◌, ◌++◌, length, length-take, append-nil, Option, Some, None, Result, Ok, Err, OnOk, IfOk, IfErr, IfSome, refl, sym, ap, subst, ◌∙◌, arith, inl, inr}
 use Rattle.std.specs.Prelude.{nat_le, slice_get, slice_set}
 use Rattle.std.proofs.lemmas.Bool.Decides.{eqb_tells}
+use Rattle.std.proofs.lemmas.Option.{same_Some}
 use Rattle.rv_fields.specs.Effect.{Effect}
 use Rattle.rv_fields.specs.Play.{Machine, Plays, after_step}
 use Rattle.rv_fields.specs.Step.{Stepped, step}
@@ -10,7 +11,7 @@ use Rattle.rv_fields.specs.declared.trap.Trap.{Trap}
 use Rattle.rv_step.specs.declared.hart.Stepped as code
 use Rattle.rv_step.specs.Views.{effect_seen}
 use Rattle.rv_machine.specs.Views.{IsTurn}
-use Rattle.rv_machine.proofs.Lists.{get_of_set_other, get_of_set_same}
+use Rattle.rv_fields.proofs.Lists.{get_of_set_other, get_of_set_same}
 use Rattle.sv_walk.specs.declared.trail.Trail.{Trail}
 use Rattle.sv_walk.specs.Views.{entries_of, trail_seen}
 use Rattle.trace_text.specs.Reading.{Unread}
@@ -110,13 +111,10 @@ module _ (start : Unread) (effects : List Effect) (e : Effect) (judge : Judge) (
       | inl same ↦
           let set_here : slice_get (slice_set judge.boots place more) h ≡ Some more =
           subst (λ k. slice_get (slice_set judge.boots place more) k ≡ Some more) (here ∙ same.1) (get_of_set_same judge.boots place more below) in
-          let is_more : boot ≡ more = one boot more (sym at ∙ set_here) in
+          let is_more : boot ≡ more = same_Some boot more (sym at ∙ set_here) in
           own h boot same.0 (subst (λ b. IsBootOf b (effects_by h effects ++ e ∷ [])) (sym is_more)
           (subst (λ k. IsBootOf more (effects_by k effects ++ e ∷ [])) same.1 kept))
       | inr apart ↦ other h boot apart.0 (is.boots h boot (sym (get_of_set_other judge.boots place more h (λ h_is. apart.1 (sym here ∙ sym h_is))) ∙ at))
     ];
     compared = subst (λ es. IsCompared start es judge.comparison) (sym (behind_is false booting ∙ append-nil (behind_boots [] effects))) is.compared;
   }
-    where
-      one : (a b : Boot) → Some a ≡ Some b → a ≡ b
-      one a b e = cc

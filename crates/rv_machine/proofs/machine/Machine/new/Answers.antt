@@ -6,7 +6,7 @@ use Rattle.std.proofs.lemmas.List.{length-append}
 use Rattle.rv_step.specs.declared.hart.Hart.{Hart}
 use Rattle.rv_step.specs.Views.{hart_seen}
 use Rattle.rv_machine.specs.Views.{no_hart, reset_hart}
-use Rattle.rv_machine.proofs.Lists.{get_of_more}
+use Rattle.rv_fields.proofs.Lists.{get_of_more}
 use Rattle.rv_machine.proofs.Made.{IsMade}
 use Rattle.rv_machine.proofs.machine.Machine.new.Goals as goal
 

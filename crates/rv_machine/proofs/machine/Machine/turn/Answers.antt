@@ -12,7 +12,7 @@ use Rattle.rv_step.specs.declared.hart.Hart.{Hart}
 use Rattle.rv_step.specs.Views.{hart_seen, effect_seen, stepped_seen}
 use Rattle.rv_machine.specs.Links.{stands}
 use Rattle.rv_machine.specs.Views.{memory_seen, hart_in, no_hart}
-use Rattle.rv_machine.proofs.Lists.{get_of_set_other, get_of_set_same}
+use Rattle.rv_fields.proofs.Lists.{get_of_set_other, get_of_set_same}
 use Rattle.rv_machine.proofs.Made.{harts_updated}
 use Rattle.rv_machine.proofs.machine.Machine.turn.Goals as goal
 
