@@ -1,5 +1,5 @@
 -- What each row of the instruction table does: the rows of one class have one meaning, but for what they compute.
-use Rattle.std.specs.Prelude.{ℕ, Option, Some, None, option_map}
+use Rattle.std.specs.Prelude.{ℕ, Bool, true, false, Option, Some, None, option_map}
 use Rattle.std.specs.Option.{option_map_or}
 use Rattle.rv_fields.specs.declared.access.AccessKind.{AccessKind}
 use Rattle.rv_fields.specs.declared.access.AccessKind.TheVariants.{Load, Store, Lr, Sc, Amo}
@@ -42,6 +42,21 @@ access_in CallsEnvironment = None
 access_in Breaks = None
 access_in ReturnsFromM = None
 access_in ReturnsFromS = None
+
+-- whether the instructions of a class do no more than to give rd a value
+abbrev pub is_computing : Class → Bool
+is_computing Computes = true
+is_computing Branches = false
+is_computing Jumps = false
+is_computing JumpsByRegister = false
+is_computing (Accesses kind size extended) = false
+is_computing (ChangesCsr change) = false
+is_computing Fences = false
+is_computing FencesTranslation = false
+is_computing CallsEnvironment = false
+is_computing Breaks = false
+is_computing ReturnsFromM = false
+is_computing ReturnsFromS = false
 
 -- every row by its name, in the table's order
 abbrev pub class_of : Ins → Class

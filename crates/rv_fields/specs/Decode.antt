@@ -55,6 +55,17 @@ has_rs2 A = true
 has_rs2 V = true
 has_rs2 _ = false
 
+-- an immediate or a shift amount; the number of a CSR is none
+abbrev pub has_imm : Form → Bool
+has_imm R = false
+has_imm A = false
+has_imm L = false
+has_imm C = false
+has_imm K = false
+has_imm V = false
+has_imm N = false
+has_imm _ = true
+
 abbrev pub has_aqrl : Form → Bool
 has_aqrl A = true
 has_aqrl L = true

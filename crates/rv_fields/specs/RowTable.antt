@@ -1,6 +1,7 @@
 -- The instruction table: each row is an instruction with its name, its form, the mask of the bits that tell
 -- it from the others, and the value of these bits.
-use Rattle.std.specs.Prelude.{ℕ, ◌≡◌, List, [], ◌∷◌, codes, bit_and}
+use Rattle.std.specs.Prelude.{ℕ, ◌≡◌, List, [], ◌∷◌, codes, bit_and, Option, find}
+use Rattle.std.specs.Str.{bytes_eq}
 use Rattle.rv_fields.specs.declared.row_table.Ins.{Ins}
 use Rattle.rv_fields.specs.declared.row_table.Ins.TheVariants.{Lui, Auipc, Jal, Jalr, Lb, Lh, Lw, Ld, Lbu, Lhu, Lwu, Addi, Slti, Sltiu, Xori, Ori, Andi, Addiw, Fence, Beq, Bne, Blt, Bge, Bltu, Bgeu, Sb, Sh, Sw, Sd, Slli, Srli, Srai, Slliw, Srliw, Sraiw, Add, Sub, Sll, Slt, Sltu, Xor, Srl, Sra, Or, And, Addw, Subw, Sllw, Srlw, Sraw, Mul, Mulh, Mulhsu, Mulhu, Div, Divu, Rem, Remu, Mulw, Divw, Divuw, Remw, Remuw, ScW, AmoswapW, AmoaddW, AmoxorW, AmoandW, AmoorW, AmominW, AmomaxW, AmominuW, AmomaxuW, ScD, AmoswapD, AmoaddD, AmoxorD, AmoandD, AmoorD, AmominD, AmomaxD, AmominuD, AmomaxuD, LrW, LrD, Csrrw, Csrrs, Csrrc, Csrrwi, Csrrsi, Csrrci, SfenceVma, Ecall, Ebreak, Sret, Mret}
 use Rattle.rv_fields.specs.declared.row_table.Form.{Form}
@@ -118,6 +119,10 @@ row_of Mret = row (codes "mret") N 0x30200073
 
 abbrev pub name_of : Ins → List ℕ
 name_of ins = (row_of ins).name
+
+-- the instruction of the name; none where no row has it
+abbrev pub ins_called : List ℕ → Option Ins
+ins_called name = find (λ ins. bytes_eq (name_of ins) name) all_ins
 
 abbrev pub form_of : Ins → Form
 form_of ins = (row_of ins).form

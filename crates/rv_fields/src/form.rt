@@ -1,5 +1,5 @@
 ghost use Rattle.std.specs.Prelude.{◌≡◌};
-ghost use Rattle.rv_fields.specs.Decode.{has_rd, has_rs1, has_rs2, has_aqrl};
+ghost use Rattle.rv_fields.specs.Decode.{has_rd, has_rs1, has_rs2, has_imm, has_aqrl};
 
 use crate::row_table::Form;
 
@@ -23,6 +23,16 @@ impl Form {
         ensures { result ≡ has_rs2 self }
     {
         matches!(self, Form::B | Form::S | Form::R | Form::A | Form::V)
+    }
+
+    /// Whether the form has an immediate or a shift amount.
+    pub fn has_imm(self) -> bool
+        ensures { result ≡ has_imm self }
+    {
+        matches!(
+            self,
+            Form::U | Form::J | Form::I | Form::B | Form::S | Form::H6 | Form::H5
+        )
     }
 
     /// Whether the form has the ordering bits aq and rl.

@@ -10,14 +10,13 @@ ghost use Rattle.rv_step.specs.Views.{hart_seen, outcome_seen, decoded_seen};
 ghost use Rattle.rv_step.specs.Frames.{Leaves, access_of, HasRoomIfTold};
 
 use crate::bus::Bus;
-use crate::class::class_of;
 use crate::control::csr_operand;
 use crate::hart::Hart;
 use crate::memory::Target;
 use crate::outcome::{Outcome, moved_by, traps};
 use rv_alu::{alu, taken};
 use rv_fields::{Class, Mode};
-use rv_table::{Form, Ins, Ops};
+use rv_table::{Form, Ins, Ops, class_of};
 
 /// An instruction: its row with the row's form, its operands, the values of the registers that it reads, and its word.
 #[derive(Clone, Copy)]

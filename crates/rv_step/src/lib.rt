@@ -2,7 +2,6 @@
 #![tactic(auto)]
 
 mod bus;
-mod class;
 mod control;
 mod hart;
 mod instruction;

@@ -1,6 +1,6 @@
 ghost use Rattle.std.specs.Prelude.{◌≡◌, ◌↔◌, Some, find};
 ghost use Rattle.rv_fields.specs.declared.row_table.Ins.{Ins};
-ghost use Rattle.rv_fields.specs.RowTable.{name_of};
+ghost use Rattle.rv_fields.specs.RowTable.{ins_called, name_of};
 ghost use Rattle.rv_table.specs.Listing.{listed, has_name};
 
 use crate::table::{Entry, entries};
@@ -8,7 +8,8 @@ use rv_fields::Ins;
 
 /// The instruction of this name; none where no row has it.
 pub fn by_name(name: &str) -> Option<Ins>
-    ensures { (i : Ins) → (result ≡ Some i) ↔ (name_of i ≡ name.now) }
+    ensures value { result ≡ ins_called name.now }
+    ensures name { (i : Ins) → (result ≡ Some i) ↔ (name_of i ≡ name.now) }
 {
     let Entry(ins, ..) = first_named(entries(), name)?;
     Some(ins)
