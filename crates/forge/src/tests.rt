@@ -10,6 +10,7 @@ mod boots;
 mod faults;
 mod harts;
 mod replays;
+mod rows;
 
 const USAGE: &str =
     "usage: make|make-serial JOB TREES SEED ELF ORDER TRACE; replay ELF ORDER TRACE; big N JOB TREES; check JOB TREES\n";

@@ -1,33 +1,37 @@
 -- What the begin of a request computes to, where all of its operands are pinned.
 use Rattle.std.proofs.Common.{ℕ, zero, suc, ◌+◌, ◌-◌, ◌*◌, ◌^◌, ◌<◌, ◌≤◌, ◌≡◌, ℤ, pos, Bool, true, false, not, cond, eqb, ltb, ◌&&◌, get_or, List, [], ◌∷◌, length, filter, Option, Some, None, inl, inr, refl, sym, ap, subst, ◌∙◌, arith, lt-ltb}
-use Rattle.std.specs.Prelude.{IsTrue, IsSomeAnd, IfSome, is_none, option_map, unwrap_or}
+use Rattle.std.specs.Prelude.{IfSome, is_none, option_map, unwrap_or}
 use Rattle.std.specs.List.{AllByRecursion, range_with_len}
-use Rattle.std.proofs.lemmas.Bool.{eqb-true}
+use Rattle.std.proofs.lemmas.Bool.{and_parts, eqb-true, ltb-true}
 use Rattle.std.proofs.lemmas.Bool.Decides.{nat_tests}
+use Rattle.rv_fields.specs.declared.class.Class.{Class}
 use Rattle.rv_fields.specs.declared.class.Class.TheVariants.{Computes}
+use Rattle.rv_fields.specs.declared.row_table.Form.{Form}
+use Rattle.rv_fields.specs.declared.row_table.Form.TheVariants.{U, I, H6, H5}
 use Rattle.rv_fields.specs.declared.row_table.Ins.{Ins}
-use Rattle.rv_fields.specs.declared.row_table.Ins.TheVariants.{Addi, Add}
+use Rattle.rv_fields.specs.declared.row_table.Ins.TheVariants.{Fence, Csrrwi, Csrrsi, Csrrci}
 use Rattle.rv_fields.specs.declared.row_table.Ops.{Ops}
-use Rattle.rv_fields.specs.Class.{class_of}
-use Rattle.rv_fields.specs.Decode.{Decoded, decoded, rs1_read}
+use Rattle.rv_fields.specs.Class.{class_of, is_computing}
+use Rattle.rv_fields.specs.Decode.{Decoded, decoded, has_imm, has_rd, has_rs1, has_rs2, rs1_read}
 use Rattle.rv_fields.specs.Attempt.{◌>>=◌}
 use Rattle.rv_fields.specs.Effect.{Effect}
-use Rattle.rv_fields.specs.Immediate.{fits_i}
 use Rattle.rv_fields.specs.RowTable.{form_of, value_of}
 use Rattle.rv_fields.specs.Name.{Name}
 use Rattle.rv_encode.specs.Packing.{word_by}
-use Rattle.rv_encode.specs.Fitting.{misfit}
+use Rattle.rv_encode.specs.declared.field.Field.TheVariants.{Rd, Rs1, Rs2}
+use Rattle.rv_encode.specs.Fitting.{fits_field, misfit}
 use Rattle.rv_encode.proofs.Encoded.{all_fit, encoded_decodes}
 use Rattle.rv_encode.proofs.Packing.{packed_lt}
 use Rattle.rv_fields.proofs.OneRow.{value_masked}
-use Rattle.choice_tree.specs.Draws.{Draws}
-use Rattle.operand_solver.specs.Operands.{Drawn, Operand, no_operand, operands_drawn, registers_drawn, registers_of, serve, with_imm}
+use Rattle.choice_tree.specs.Draws.{Draws, next_word}
+use Rattle.operand_solver.specs.Operands.{Drawn, Operand, allowed, if_has, imm_by, imm_in, operand, operands_drawn, registers_drawn, registers_of, serve, with_drawn_imm, with_imm}
 use Rattle.region_plan.specs.declared.request.InsChoice.TheVariants.{Named}
 use Rattle.region_plan.specs.declared.request.Request as code
 use Rattle.region_plan.specs.declared.request.Request.TheVariants as requests
 use Rattle.region_plan.specs.Plan.{HartPlan, Work, hart_count, no_hart, plan_of}
 use Rattle.region_plan.specs.Request.{InsChoice, Pins, Plain, Quiet, Request, a_csr, a_jump, a_loop, a_mem, a_pick, a_plain, a_set, a_sys, a_value, an_ins, by_tree, named_ins}
-use Rattle.region_plan.specs.Rules.{FitAdd, FitAddi, IsMakeable, IsMakeableRequest, IsPlainHart, KeepsRules}
+use Rattle.region_plan.specs.Pinned.{bare_pins, pinned_ops, is_pinned_where, is_fully_pinned}
+use Rattle.region_plan.specs.Rules.{IsMakeable, IsMakeableRequest, IsPlainHart, KeepsRules}
 use Rattle.region_plan.specs.Script.{ScriptItem}
 use Rattle.region_plan.specs.Views.{request_seen}
 use Rattle.boot_words.specs.Layout.{code_start, window_at, window_by, window_words}
@@ -39,15 +43,11 @@ use Rattle.hart_task.specs.Blocks.{IsPinned, Meets}
 use Rattle.hart_task.specs.Heard.{Heard}
 use Rattle.hart_task.specs.State.{HartState, Loop, between, counter_of, index_of, is_done, making}
 use Rattle.hart_task.specs.Turn.{Next, Turned, begin_prepared, begin_turn, next_of, next_turn, turned, turned_in}
-use Rattle.hart_task.proofs.Plainly.{is_true}
 
 -- ---- the word of a request
 
-abbrev pub ops_of : Pins → Ops
-ops_of pins = record { rd = unwrap_or pins.rd 0; rs1 = unwrap_or pins.rs1 0; rs2 = unwrap_or pins.rs2 0; imm = unwrap_or pins.imm (pos 0); aqrl = 0 }
-
 abbrev pub ins_word : InsChoice → Pins → ℕ
-ins_word (named_ins ins) pins = word_by ins (ops_of pins)
+ins_word (named_ins ins) pins = word_by ins (pinned_ops pins)
 ins_word (by_tree tree) pins = 0
 
 abbrev pub plain_word : Plain → ℕ
@@ -70,42 +70,15 @@ word_seen_is (requests.Ins (Named ins) pins) = refl
 
 -- ---- the requests that can be made
 
-abbrev pub addi_pins : ℕ → ℕ → ℤ → Pins
-addi_pins rd rs1 imm = record { rd = Some rd; rs1 = Some rs1; rs2 = None; imm = Some imm; aqrl = 0; avoid = []; zero_rs1 = false }
-
-abbrev pub add_pins : ℕ → ℕ → ℕ → Pins
-add_pins rd rs1 rs2 = record { rd = Some rd; rs1 = Some rs1; rs2 = Some rs2; imm = None; aqrl = 0; avoid = []; zero_rs1 = false }
-
--- the two kinds of request that can be made
+-- an instruction with all its operands
 pub data IsKnown : Request → Type 0 where
-  is_addi : (rd rs1 : ℕ) (imm : ℤ) → rd < 32 → rs1 < 32 → IsTrue (fits_i imm) → IsKnown (a_plain (an_ins (named_ins Addi) (addi_pins rd rs1 imm)))
-  is_add : (rd rs1 rs2 : ℕ) → rd < 32 → rs1 < 32 → rs2 < 32 → IsKnown (a_plain (an_ins (named_ins Add) (add_pins rd rs1 rs2)))
-
-some_with : {A : Type 0} (m : Option A) (P : A → Type 0) → IsSomeAnd m P → (a : A) × (m ≡ Some a) × P a
-some_with None P h = absurd h
-some_with (Some a) P h = (a, refl, h)
-
-known_addi : (ins : Ins) (pins : Pins) → ins ≡ Addi → FitAddi pins → IsKnown (a_plain (an_ins (named_ins ins) pins))
-known_addi ins pins is fit =
-    let rd = some_with pins.rd (λ r. r < 32) fit.plain.rd in
-    let rs1 = some_with pins.rs1 (λ r. r < 32) fit.plain.rs1 in
-    let imm = some_with pins.imm (λ i. IsTrue (fits_i i)) fit.imm in
-    let same : an_ins (named_ins Addi) (addi_pins rd.0 rs1.0 imm.0) ≡ an_ins (named_ins ins) pins =
-    λ i. an_ins (named_ins (sym is i)) (record { rd = sym rd.1 i; rs1 = sym rs1.1 i; rs2 = sym fit.rs2 i; imm = sym imm.1 i; aqrl = sym fit.plain.aqrl i; avoid = sym fit.plain.avoid i; zero_rs1 = sym fit.plain.zero i }) in
-    subst (λ p. IsKnown (a_plain p)) same (is_addi rd.0 rs1.0 imm.0 rd.2 rs1.2 imm.2)
-
-known_add : (ins : Ins) (pins : Pins) → ins ≡ Add → FitAdd pins → IsKnown (a_plain (an_ins (named_ins ins) pins))
-known_add ins pins is fit =
-    let rd = some_with pins.rd (λ r. r < 32) fit.plain.rd in
-    let rs1 = some_with pins.rs1 (λ r. r < 32) fit.plain.rs1 in
-    let rs2 = some_with pins.rs2 (λ r. r < 32) fit.rs2 in
-    let same : an_ins (named_ins Add) (add_pins rd.0 rs1.0 rs2.0) ≡ an_ins (named_ins ins) pins =
-    λ i. an_ins (named_ins (sym is i)) (record { rd = sym rd.1 i; rs1 = sym rs1.1 i; rs2 = sym rs2.1 i; imm = sym fit.imm i; aqrl = sym fit.plain.aqrl i; avoid = sym fit.plain.avoid i; zero_rs1 = sym fit.plain.zero i }) in
-    subst (λ p. IsKnown (a_plain p)) same (is_add rd.0 rs1.0 rs2.0 rd.2 rs1.2 rs2.2)
+  is_pinned_ins : (ins : Ins) (rd rs1 rs2 : Option ℕ) (imm : Option ℤ) → is_fully_pinned ins (bare_pins rd rs1 rs2 imm) ≡ true
+      → IsKnown (a_plain (an_ins (named_ins ins) (bare_pins rd rs1 rs2 imm)))
 
 pub known : (r : Request) → IsMakeableRequest r → IsKnown r
-known (a_plain (an_ins (named_ins ins) pins)) (inl m) = known_addi ins pins m.0 m.1
-known (a_plain (an_ins (named_ins ins) pins)) (inr m) = known_add ins pins m.0 m.1
+known (a_plain (an_ins (named_ins ins) pins)) m =
+    let alone : bare_pins pins.rd pins.rs1 pins.rs2 pins.imm ≡ pins = sym m.alone in
+    subst (λ p. IsKnown (a_plain (an_ins (named_ins ins) p))) alone (is_pinned_ins ins pins.rd pins.rs1 pins.rs2 pins.imm (ap (is_fully_pinned ins) alone ∙ m.whole))
 known (a_plain (an_ins (by_tree tree) pins)) m = absurd m
 known (a_plain (a_mem r)) m = absurd m
 known (a_plain (a_jump r)) m = absurd m
@@ -115,6 +88,35 @@ known (a_plain (a_value value pins)) m = absurd m
 known (a_loop times counter body) m = absurd m
 known (a_set tree path weight) m = absurd m
 known (a_pick tree) m = absurd m
+
+-- what is known of an instruction with all its operands
+pub record PinnedParts (ins : Ins) (rd rs1 rs2 : Option ℕ) (imm : Option ℤ) : Type 0 where
+  pub computes : is_computing (class_of ins) ≡ true
+  pub rd_is : is_pinned_where (has_rd (form_of ins)) rd ≡ true
+  pub rs1_is : is_pinned_where (has_rs1 (form_of ins)) rs1 ≡ true
+  pub rs2_is : is_pinned_where (has_rs2 (form_of ins)) rs2 ≡ true
+  pub imm_is : is_pinned_where (has_imm (form_of ins)) imm ≡ true
+  pub fits : misfit (form_of ins) (pinned_ops (bare_pins rd rs1 rs2 imm)) ≡ None
+
+without : {A : Type 0} (m : Option A) → is_none m ≡ true → m ≡ None
+without None e = refl
+without (Some a) e = absurd cc
+
+pub parts_of_pinned : (ins : Ins) (rd rs1 rs2 : Option ℕ) (imm : Option ℤ) → is_fully_pinned ins (bare_pins rd rs1 rs2 imm) ≡ true → PinnedParts ins rd rs1 rs2 imm
+parts_of_pinned ins rd rs1 rs2 imm whole =
+    let first = and_parts _ _ whole in
+    let second = and_parts _ _ first.0 in
+    let operands = and_parts _ _ second.1 in
+    let registers = and_parts _ _ operands.0 in
+    let leading = and_parts _ _ registers.0 in
+    record {
+      computes = second.0;
+      rd_is = leading.0;
+      rs1_is = leading.1;
+      rs2_is = registers.1;
+      imm_is = operands.1;
+      fits = without _ first.1;
+    }
 
 -- ---- what is drawn
 
@@ -146,22 +148,75 @@ just r = record { members = r ∷ []; drawn = false }
 pinned_members : (pin : ℕ) → pin < 32 → filter (λ r. eqb r pin) (range_with_len 0 32) ≡ pin ∷ []
 pinned_members pin small = one_at 32 0 pin (omega arith) (omega (arith, small))
 
-addi_operands : (rd rs1 : ℕ) (imm : ℤ) → rd < 32 → rs1 < 32 → registers_of Addi (addi_pins rd rs1 imm) None ≡ just rd ∷ just rs1 ∷ no_operand ∷ []
-addi_operands rd rs1 imm small small1 =
-    λ i. (record { members = pinned_members rd small i; drawn = false }) ∷ (record { members = pinned_members rs1 small1 i; drawn = false }) ∷ no_operand ∷ []
+-- all registers may be drawn where none is to be avoided
+all_allowed : (rd rs1 rs2 : Option ℕ) (imm : Option ℤ) (counter : Option ℕ) → counter ≡ None → allowed (bare_pins rd rs1 rs2 imm) counter 0 ≡ range_with_len 0 32
+all_allowed rd rs1 rs2 imm counter none = ap (λ c. allowed (bare_pins rd rs1 rs2 imm) c 0) none
 
-add_operands : (rd rs1 rs2 : ℕ) → rd < 32 → rs1 < 32 → rs2 < 32 → registers_of Add (add_pins rd rs1 rs2) None ≡ just rd ∷ just rs1 ∷ just rs2 ∷ []
-add_operands rd rs1 rs2 small small1 small2 =
-    λ i. (record { members = pinned_members rd small i; drawn = false }) ∷ (record { members = pinned_members rs1 small1 i; drawn = false }) ∷ (record { members = pinned_members rs2 small2 i; drawn = false }) ∷ []
+-- a register that is given exactly where the form has it, in its field
+pinned_operand : (has : Bool) (pin : Option ℕ) → is_pinned_where has pin ≡ true → fits_field has 32 (unwrap_or pin 0) ≡ true
+    → if_has has (operand (range_with_len 0 32) pin) ≡ just (unwrap_or pin 0)
+pinned_operand true None there small = absurd cc
+pinned_operand true (Some r) there small = ap (λ members. record { members = members; drawn = false }) (pinned_members r (ltb-true r 32 small))
+pinned_operand false None there small = refl
+pinned_operand false (Some r) there small = absurd cc
+
+-- the operands among the registers, by the form alone
+registers_by_form : (ins : Ins) (pins : Pins) (counter : Option ℕ) → is_computing (class_of ins) ≡ true
+    → registers_of ins pins counter
+    ≡ if_has (has_rd (form_of ins)) (operand (allowed pins counter 0) pins.rd)
+    ∷ if_has (has_rs1 (form_of ins) && not pins.zero_rs1) (operand (allowed pins counter 0) pins.rs1)
+    ∷ if_has (has_rs2 (form_of ins)) (operand (allowed pins counter 0) pins.rs2)
+    ∷ []
+registers_by_form Fence pins counter computes = absurd cc
+registers_by_form _ pins counter computes = refl
+
+and_true : (b : Bool) → (b && true) ≡ b
+and_true true = refl
+and_true false = refl
+
+pinned_registers : (ins : Ins) (rd rs1 rs2 : Option ℕ) (imm : Option ℤ) (counter : Option ℕ) → PinnedParts ins rd rs1 rs2 imm → counter ≡ None
+    → registers_of ins (bare_pins rd rs1 rs2 imm) counter ≡ just (unwrap_or rd 0) ∷ just (unwrap_or rs1 0) ∷ just (unwrap_or rs2 0) ∷ []
+pinned_registers ins rd rs1 rs2 imm counter whole none =
+    let fit = all_fit (form_of ins) (pinned_ops (bare_pins rd rs1 rs2 imm)) whole.fits in
+    let first = pinned_operand (has_rd (form_of ins)) rd whole.rd_is (fit Rd) in
+    let second = pinned_operand (has_rs1 (form_of ins)) rs1 whole.rs1_is (fit Rs1) in
+    let third = pinned_operand (has_rs2 (form_of ins)) rs2 whole.rs2_is (fit Rs2) in
+    let all = all_allowed rd rs1 rs2 imm counter none in
+    registers_by_form ins (bare_pins rd rs1 rs2 imm) counter whole.computes
+    ∙ ap (λ members. if_has (has_rd (form_of ins)) (operand members rd) ∷ if_has (has_rs1 (form_of ins) && true) (operand members rs1) ∷ if_has (has_rs2 (form_of ins)) (operand members rs2) ∷ []) all
+    ∙ (λ i. first i ∷ (ap (λ has. if_has has (operand (range_with_len 0 32) rs1)) (and_true (has_rs1 (form_of ins))) ∙ second) i ∷ third i ∷ [])
+
+-- an immediate is drawn by the form alone
+imm_by_form : (ins : Ins) (word : ℕ) → is_computing (class_of ins) ≡ true → imm_by ins word ≡ imm_in (form_of ins) word
+imm_by_form Fence word computes = absurd cc
+imm_by_form _ word computes = refl
+
+-- a form without one draws none
+none_drawn : (form : Form) (word : ℕ) → has_imm form ≡ false → imm_in form word ≡ None
+none_drawn U word lacks = absurd cc
+none_drawn I word lacks = absurd cc
+none_drawn H6 word lacks = absurd cc
+none_drawn H5 word lacks = absurd cc
+none_drawn _ word lacks = refl
+
+-- the immediate that is given stands behind the registers
+pinned_imm : (ins : Ins) (imm : Option ℤ) (d : Drawn) → is_computing (class_of ins) ≡ true → is_pinned_where (has_imm (form_of ins)) imm ≡ true → d.ops.imm ≡ pos 0
+    → with_imm ins imm d ≡ record d { ops = record d.ops { imm = unwrap_or imm (pos 0) } }
+pinned_imm ins (Some i) d computes there bare = refl
+pinned_imm ins None d computes there bare =
+    ap (λ drawn. with_drawn_imm drawn d) (imm_by_form ins (next_word d.left) computes ∙ none_drawn (form_of ins) (next_word d.left) (lacks (has_imm (form_of ins)) there))
+    ∙ ap (λ z. record d { ops = record d.ops { imm = z } }) bare
+  where
+    lacks : (has : Bool) → is_pinned_where {A = ℤ} has None ≡ true → has ≡ false
+    lacks true e = absurd cc
+    lacks false e = refl
 
 -- nothing is drawn for it
-addi_drawn : (rd rs1 : ℕ) (imm : ℤ) (draws : Draws) → rd < 32 → rs1 < 32
-    → operands_drawn Addi (addi_pins rd rs1 imm) None draws ≡ record { ops = ops_of (addi_pins rd rs1 imm); left = draws }
-addi_drawn rd rs1 imm draws small small1 = ap (λ os. with_imm Addi (Some imm) (registers_drawn draws os)) (addi_operands rd rs1 imm small small1)
-
-add_drawn : (rd rs1 rs2 : ℕ) (draws : Draws) → rd < 32 → rs1 < 32 → rs2 < 32
-    → operands_drawn Add (add_pins rd rs1 rs2) None draws ≡ record { ops = ops_of (add_pins rd rs1 rs2); left = draws }
-add_drawn rd rs1 rs2 draws small small1 small2 = ap (λ os. with_imm Add None (registers_drawn draws os)) (add_operands rd rs1 rs2 small small1 small2)
+pinned_drawn : (ins : Ins) (rd rs1 rs2 : Option ℕ) (imm : Option ℤ) (counter : Option ℕ) (draws : Draws) → PinnedParts ins rd rs1 rs2 imm → counter ≡ None
+    → operands_drawn ins (bare_pins rd rs1 rs2 imm) counter draws ≡ record { ops = pinned_ops (bare_pins rd rs1 rs2 imm); left = draws }
+pinned_drawn ins rd rs1 rs2 imm counter draws whole none =
+    ap (λ os. with_imm ins imm (registers_drawn draws os)) (pinned_registers ins rd rs1 rs2 imm counter whole none)
+    ∙ pinned_imm ins imm (record { ops = record { rd = unwrap_or rd 0; rs1 = unwrap_or rs1 0; rs2 = unwrap_or rs2 0; imm = pos 0; aqrl = 0 }; left = draws }) whole.computes whole.imm_is refl
 
 no_counter : (s : HartState) → s.loop ≡ None → counter_of s ≡ None
 no_counter s is = ap (option_map (λ (l : Loop). l.counter)) is
@@ -169,12 +224,8 @@ no_counter s is = ap (option_map (λ (l : Loop). l.counter)) is
 -- the request makes the one word, and leaves the stream as it was
 prepared_is : (r : Request) → IsKnown r → (work : Work) (s : HartState) (leaf : Option Name) → s.loop ≡ None
     → prepared work s r leaf ≡ makes (pinned_word r ∷ []) (Some Quiet) s.draws
-prepared_is r (is_addi rd rs1 imm small small1 fits) work s leaf is =
-    ap (λ c. let d = operands_drawn Addi (addi_pins rd rs1 imm) c s.draws in makes (word_by Addi d.ops ∷ []) (Some Quiet) d.left) (no_counter s is)
-    ∙ ap (λ (d : Drawn). makes (word_by Addi d.ops ∷ []) (Some Quiet) d.left) (addi_drawn rd rs1 imm s.draws small small1)
-prepared_is r (is_add rd rs1 rs2 small small1 small2) work s leaf is =
-    ap (λ c. let d = operands_drawn Add (add_pins rd rs1 rs2) c s.draws in makes (word_by Add d.ops ∷ []) (Some Quiet) d.left) (no_counter s is)
-    ∙ ap (λ (d : Drawn). makes (word_by Add d.ops ∷ []) (Some Quiet) d.left) (add_drawn rd rs1 rs2 s.draws small small1 small2)
+prepared_is r (is_pinned_ins ins rd rs1 rs2 imm is_fully_pinned) work s leaf is =
+    ap (λ (d : Drawn). makes (word_by ins d.ops ∷ []) (Some Quiet) d.left) (pinned_drawn ins rd rs1 rs2 imm (counter_of s) s.draws (parts_of_pinned ins rd rs1 rs2 imm is_fully_pinned) (no_counter s is))
 
 -- ---- no cause holds
 
@@ -204,12 +255,8 @@ pub no_space : (work : Work) (h : ℕ) → IsPlainWork work h → (plan_of work 
 no_space work h plain = ap (λ (p : HartPlan). p.space) plain.plan
 
 serves_is : (r : Request) → IsKnown r → (work : Work) (s : HartState) (heard : Heard) (p : Prepared) → s.loop ≡ None → holds_cause work s heard r p NoRegister ≡ false
-serves_is r (is_addi rd rs1 imm small small1 fits) work s heard p is =
-    ap (λ c. not (serve (registers_of Addi (addi_pins rd rs1 imm) c))) (no_counter s is)
-    ∙ ap (λ os. not (serve os)) (addi_operands rd rs1 imm small small1)
-serves_is r (is_add rd rs1 rs2 small small1 small2) work s heard p is =
-    ap (λ c. not (serve (registers_of Add (add_pins rd rs1 rs2) c))) (no_counter s is)
-    ∙ ap (λ os. not (serve os)) (add_operands rd rs1 rs2 small small1 small2)
+serves_is r (is_pinned_ins ins rd rs1 rs2 imm is_fully_pinned) work s heard p is =
+    ap (λ os. not (serve os)) (pinned_registers ins rd rs1 rs2 imm (counter_of s) (parts_of_pinned ins rd rs1 rs2 imm is_fully_pinned) (no_counter s is))
 
 not_and : (b c : Bool) → c ≡ false → (b && c) ≡ false
 not_and true c is = is
@@ -227,10 +274,8 @@ module _ (work : Work) (s : HartState) (heard : Heard) (plain : IsPlainWork work
       not_and (is_none s.loop) _ (grind (arith, nat_tests))
 
   cause_not : (r : Request) → IsKnown r → s.loop ≡ None → (draws : Draws) → cause_of work s heard r (makes (pinned_word r ∷ []) (Some Quiet) draws) ≡ None
-  cause_not r (is_addi rd rs1 imm small small1 fits) is draws =
-      rw (spent_not 15 (omega arith), serves_is r (is_addi rd rs1 imm small small1 fits) work s heard (makes (pinned_word r ∷ []) (Some Quiet) draws) is, full_not) refl
-  cause_not r (is_add rd rs1 rs2 small small1 small2) is draws =
-      rw (spent_not 15 (omega arith), serves_is r (is_add rd rs1 rs2 small small1 small2) work s heard (makes (pinned_word r ∷ []) (Some Quiet) draws) is, full_not) refl
+  cause_not r (is_pinned_ins ins rd rs1 rs2 imm is_fully_pinned) is draws =
+      rw (spent_not 15 (omega arith), serves_is r (is_pinned_ins ins rd rs1 rs2 imm is_fully_pinned) work s heard (makes (pinned_word r ∷ []) (Some Quiet) draws) is, full_not) refl
 
   -- the entry begins, and its word is made next
   abbrev pub begun_so : ScriptItem → List ScriptItem → Turned
@@ -246,8 +291,7 @@ module _ (work : Work) (s : HartState) (heard : Heard) (plain : IsPlainWork work
       of : (r : Request) → IsKnown r
           → begin_prepared work s heard (record { entry = record { request = r; arms = item.arms }; state = record s { left = rest; count = s.count + 1 } }) (makes (pinned_word r ∷ []) (Some Quiet) s.draws) None
           ≡ begun_so (record { request = r; arms = item.arms }) rest
-      of r (is_addi rd rs1 imm small small1 fits) = rw (no_space work s.hart.number plain) refl
-      of r (is_add rd rs1 rs2 small small1 small2) = rw (no_space work s.hart.number plain) refl
+      of r (is_pinned_ins ins rd rs1 rs2 imm is_fully_pinned) = rw (no_space work s.hart.number plain) refl
 
   begin_turn_is : (item : ScriptItem) (rest : List ScriptItem) → IsKnown item.request → s.loop ≡ None
       → begin_turn work s heard (record { entry = item; state = record s { left = rest; count = s.count + 1 } }) ≡ begun_so item rest
@@ -285,20 +329,24 @@ pub record IsWordOf (ins : Ins) (pins : Pins) (word : ℕ) : Type 0 where
   pub small : word < 2 ^ 32
   pub pinned : IsPinned ins pins d
 
-fit_addi : (rd rs1 : ℕ) (imm : ℤ) → rd < 32 → rs1 < 32 → IsTrue (fits_i imm) → misfit (form_of Addi) (ops_of (addi_pins rd rs1 imm)) ≡ None
-fit_addi rd rs1 imm small small1 fits = rw (lt-ltb rd 32 small, lt-ltb rs1 32 small1, is_true (fits_i imm) fits) refl
+-- an instruction that computes reads rs1 as a register
+reads_register : (ins : Ins) (ops : Ops) → is_computing (class_of ins) ≡ true → rs1_read (record { ins = ins; ops = ops }) ≡ ops.rs1
+reads_register Csrrwi ops computes = absurd cc
+reads_register Csrrsi ops computes = absurd cc
+reads_register Csrrci ops computes = absurd cc
+reads_register _ ops computes = refl
 
-fit_add : (rd rs1 rs2 : ℕ) → rd < 32 → rs1 < 32 → rs2 < 32 → misfit (form_of Add) (ops_of (add_pins rd rs1 rs2)) ≡ None
-fit_add rd rs1 rs2 small small1 small2 = rw (lt-ltb rd 32 small, lt-ltb rs1 32 small1, lt-ltb rs2 32 small2) refl
+is_class : (c : Class) → is_computing c ≡ true → c ≡ Computes
+is_class Computes e = refl
+is_class _ e = absurd cc
 
-word_of_fit : (ins : Ins) (pins : Pins) → misfit (form_of ins) (ops_of pins) ≡ None → rs1_read (record { ins = ins; ops = ops_of pins }) ≡ (ops_of pins).rs1 → class_of ins ≡ Computes
-    → IsWordOf ins pins (word_by ins (ops_of pins))
-word_of_fit ins pins fits rs1 computes = record {
-  d = record { ins = ins; ops = ops_of pins };
-  row = encoded_decodes ins (ops_of pins) fits;
-  rs1 = rs1;
-  computes = computes;
-  small = packed_lt (form_of ins) (value_of ins) (ops_of pins) (value_masked ins) (all_fit (form_of ins) (ops_of pins) fits);
+word_of_fit : (ins : Ins) (pins : Pins) → misfit (form_of ins) (pinned_ops pins) ≡ None → is_computing (class_of ins) ≡ true → IsWordOf ins pins (word_by ins (pinned_ops pins))
+word_of_fit ins pins fits computes = record {
+  d = record { ins = ins; ops = pinned_ops pins };
+  row = encoded_decodes ins (pinned_ops pins) fits;
+  rs1 = reads_register ins (pinned_ops pins) computes;
+  computes = is_class (class_of ins) computes;
+  small = packed_lt (form_of ins) (value_of ins) (pinned_ops pins) (value_masked ins) (all_fit (form_of ins) (pinned_ops pins) fits);
   pinned = record { ins = refl; rd = if_pinned pins.rd 0; rs1 = if_pinned pins.rs1 0; rs2 = if_pinned pins.rs2 0; imm = if_pinned pins.imm (pos 0) };
 }
 
@@ -310,18 +358,9 @@ pub record IsAskedWord (r : Request) (word : ℕ) : Type 0 where
   pub is_word : IsWordOf ins pins word
 
 known_word : (r : Request) → IsKnown r → IsAskedWord r (pinned_word r)
-known_word r (is_addi rd rs1 imm small small1 fits) = record {
-  ins = Addi;
-  pins = addi_pins rd rs1 imm;
-  names = refl;
-  is_word = word_of_fit Addi (addi_pins rd rs1 imm) (fit_addi rd rs1 imm small small1 fits) refl refl;
-}
-known_word r (is_add rd rs1 rs2 small small1 small2) = record {
-  ins = Add;
-  pins = add_pins rd rs1 rs2;
-  names = refl;
-  is_word = word_of_fit Add (add_pins rd rs1 rs2) (fit_add rd rs1 rs2 small small1 small2) refl refl;
-}
+known_word r (is_pinned_ins ins rd rs1 rs2 imm is_fully_pinned) =
+    let whole = parts_of_pinned ins rd rs1 rs2 imm is_fully_pinned in
+    record { ins = ins; pins = bare_pins rd rs1 rs2 imm; names = refl; is_word = word_of_fit ins (bare_pins rd rs1 rs2 imm) whole.fits whole.computes }
 
 pub makeable_word : (r : Request) → IsMakeableRequest r → IsAskedWord r (pinned_word r)
 makeable_word r makeable = known_word r (known r makeable)

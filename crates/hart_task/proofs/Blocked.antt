@@ -30,7 +30,7 @@ use Rattle.hart_task.specs.State.{HartState, Loop, between, finding, finished, h
 use Rattle.hart_task.specs.Stepping.{fixed_in, StepTaken, bytes_fixed, late_registers, named_by, runs_of, seen_of, untouched}
 use Rattle.hart_task.specs.Task.{script}
 use Rattle.hart_task.specs.Turn.{Turned, acted, acts, at_rest, done_turn, end_word, is_of, made_step, next_of, next_turn, rest_in_loop, step_turn, turned, turned_in, with_word}
-use Rattle.hart_task.proofs.Begins.{IsKnown, IsPlainWork, begins_is, is_add, is_addi, known, makeable_decodes, makeable_meets, pinned_word, plain_hart, plain_work, window_is}
+use Rattle.hart_task.proofs.Begins.{IsKnown, IsPlainWork, begins_is, is_pinned_ins, known, makeable_decodes, makeable_meets, pinned_word, plain_hart, plain_work, window_is}
 use Rattle.hart_task.proofs.Made.{Made, computes_on, here_is, if_some, jumps_on, late_for, made_was, nothing_in, number_after, zero_after}
 use Rattle.hart_task.proofs.Makes.{index_there}
 use Rattle.hart_task.proofs.Lined.{fixed_effects, runs_effects, touched_lines}
@@ -146,8 +146,7 @@ begun_lines : (work : Work) (h k : ℕ) (r : Request) → IsMakeableRequest r
 begun_lines work h k r makeable = of r (known r makeable)
   where
     of : (r : Request) → IsKnown r → lines_of work h (begins (record { k = k; request = r; pick = None; settle = None; short = None }) None []) ≡ request h k (request_kind r) ∷ []
-    of r (is_addi rd rs1 imm small small1 fits) = refl
-    of r (is_add rd rs1 rs2 small small1 small2) = refl
+    of r (is_pinned_ins ins rd rs1 rs2 imm pinned) = refl
 
 -- what is fixed before a step, and lines behind
 abbrev pub behind_fixed : ℕ → List Fixing → List Run → List Line → List Line

@@ -1,5 +1,5 @@
 -- The premises of the law of blocks can be met: a finished run of a job with one request.
-use Rattle.std.proofs.Common.{[], inl, refl, arith}
+use Rattle.std.proofs.Common.{[], refl, arith}
 use Rattle.region_plan.specs.Rules.{KeepsRules}
 use Rattle.hart_task.specs.Blocks.{AreBlocks}
 use Rattle.hart_task.specs.OneRun.{all_lines}
@@ -11,7 +11,7 @@ keeps : KeepsRules job
 keeps = record {
   some = omega arith;
   most = omega arith;
-  harts = (record { plain = refl; room = omega arith; requests = ((inl (refl, record { plain = record { aqrl = refl; avoid = refl; zero = refl; rd = omega arith; rs1 = omega arith }; rs2 = refl; imm = refl }), refl), tt) }, tt);
+  harts = (record { plain = refl; room = omega arith; requests = ((record { whole = refl; alone = refl }, refl), tt) }, tt);
   rest = refl;
 }
 

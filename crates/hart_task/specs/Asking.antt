@@ -1,5 +1,5 @@
 -- What a request asks for, where it pins all operands.
-use Rattle.std.specs.Prelude.{ℕ, unwrap_or, pos}
+use Rattle.std.specs.Prelude.{ℕ}
 use Rattle.rv_fields.specs.declared.row_table.Ins.{Ins}
 use Rattle.rv_fields.specs.declared.row_table.Ops.{Ops}
 use Rattle.rv_encode.specs.Packing.{word_by}
@@ -7,16 +7,12 @@ use Rattle.region_plan.specs.declared.request.InsChoice.{InsChoice}
 use Rattle.region_plan.specs.declared.request.InsChoice.TheVariants.{Named}
 use Rattle.region_plan.specs.declared.request.Item as item
 use Rattle.region_plan.specs.declared.request.Item.TheVariants.{One}
-use Rattle.region_plan.specs.declared.request.Pins.{Pins}
 use Rattle.region_plan.specs.declared.request.Request.{Request}
 use Rattle.region_plan.specs.declared.request.Request.TheVariants as requests
 use Rattle.region_plan.specs.Request.{no_arms}
 use Rattle.region_plan.specs.Script.{ScriptItem}
-use Rattle.region_plan.specs.Views.{request_seen}
-
--- the operands; those that aren't pinned are 0
-abbrev pub pinned_ops : Pins → Ops
-pinned_ops p = record { rd = unwrap_or p.rd 0; rs1 = unwrap_or p.rs1 0; rs2 = unwrap_or p.rs2 0; imm = unwrap_or p.imm (pos 0); aqrl = 0 }
+use Rattle.region_plan.specs.Pinned.{pinned_ops}
+use Rattle.region_plan.specs.Views.{pins_seen, request_seen}
 
 abbrev pub ins_asked : InsChoice → Ins
 ins_asked (Named ins) = ins
@@ -24,12 +20,12 @@ ins_asked (Named ins) = ins
 abbrev pub ins_of : Request → Ins
 ins_of (requests.Ins ins pins) = ins_asked ins
 
-abbrev pub ops_of : Request → Ops
-ops_of (requests.Ins ins pins) = pinned_ops pins
+abbrev pub ops_asked : Request → Ops
+ops_asked (requests.Ins ins pins) = pinned_ops (pins_seen pins)
 
 -- the word that it makes
 abbrev pub word_asked : Request → ℕ
-word_asked r = word_by (ins_of r) (ops_of r)
+word_asked r = word_by (ins_of r) (ops_asked r)
 
 -- what an item of a template is in its script
 abbrev pub item_seen : item.Item → ScriptItem

@@ -1,7 +1,7 @@
 -- How a request begins: what it is refused for, and else what its next drawn words make of it.
 use Rattle.rv_encode.specs.Packing.{word_by}
 use Rattle.std.specs.Option.{option_map_or}
-use Rattle.std.specs.Prelude.{Bool, List, None, Option, Some, bytes_eq, false, find, is_none, is_some, length, nat_lt, not, option_and_then, option_map, pos, true, unwrap_or, ℕ, ◌+◌, ◌-◌, ◌==◌, ◌&&◌, ◌||◌, ◌∷◌, ◌++◌, [], if◌then◌else◌}
+use Rattle.std.specs.Prelude.{Bool, List, None, Option, Some, false, find, is_none, is_some, length, nat_lt, not, option_and_then, option_map, pos, true, unwrap_or, ℕ, ◌+◌, ◌-◌, ◌==◌, ◌&&◌, ◌||◌, ◌∷◌, ◌++◌, [], if◌then◌else◌}
 use Rattle.boot_words.specs.Layout.{window_at, window_words}
 use Rattle.choice_tree.specs.Draws.{Draws}
 use Rattle.hart_task.specs.Acts.{Fixing}
@@ -15,7 +15,7 @@ use Rattle.region_plan.specs.Request.{Demand, InsChoice, JumpRequest, MemRequest
 use Rattle.region_plan.specs.Script.{cost, loop_words}
 use Rattle.rv_encode.specs.Li.{li}
 use Rattle.rv_fields.specs.Csr.{csr_number}
-use Rattle.rv_fields.specs.RowTable.{all_ins, name_of, value_of}
+use Rattle.rv_fields.specs.RowTable.{ins_called, value_of}
 use Rattle.rv_fields.specs.Sv39.{is_canonical}
 use Rattle.rv_fields.specs.declared.row_table.Ins.{Ins}
 use Rattle.rv_fields.specs.declared.row_table.Ins.TheVariants.{Addi, Ebreak, Ecall, Mret, SfenceVma, Sret}
@@ -44,9 +44,6 @@ tree_of (a_plain p) = plain_tree p
 tree_of (a_loop times counter body) = None
 tree_of (a_set tree path weight) = None
 tree_of (a_pick tree) = Some tree
-
-abbrev pub ins_called : Name → Option Ins
-ins_called name = find (λ ins. bytes_eq (name_of ins) name) all_ins
 
 -- the instruction that is named, or that the leaf names: each leaf of such a tree names one
 abbrev pub ins_by : InsChoice → Option Name → Ins

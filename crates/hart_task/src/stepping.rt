@@ -6,7 +6,7 @@ ghost use Rattle.region_plan.specs.Views.{request_seen};
 ghost use Rattle.trace_text.specs.Traces.{IsStep};
 ghost use Rattle.trace_text.specs.Views.{effect_seen};
 ghost use Rattle.rv_step.specs.Views.{hart_seen};
-ghost use Rattle.hart_task.specs.Asking.{ins_of, ops_of, word_asked};
+ghost use Rattle.hart_task.specs.Asking.{ins_of, ops_asked, word_asked};
 ghost use Rattle.hart_task.specs.Bus.{word_seen};
 ghost use Rattle.hart_task.specs.Plain.{StepsPlainly};
 
@@ -26,18 +26,12 @@ fn ins_of(request: Request) -> Ins
     ins
 }
 
-/// The operands that it pins; the others are 0.
+/// The operands that it gives; the others are 0.
 fn ops_of(request: Request) -> Ops
-    ensures { result ≡ ops_of request }
+    ensures { result ≡ ops_asked request }
 {
     let Request::Ins { pins, .. } = request;
-    Ops {
-        rd: pins.rd.unwrap_or(0),
-        rs1: pins.rs1.unwrap_or(0),
-        rs2: pins.rs2.unwrap_or(0),
-        imm: pins.imm.unwrap_or(0),
-        aqrl: 0,
-    }
+    pins.ops()
 }
 
 /// The word that the request makes.

@@ -7,83 +7,45 @@ use Rattle.std.proofs.lemmas.Option.{cond_some, same_Some}
 use Rattle.std.specs.Str.{bytes_eq}
 use Rattle.serde_json.specs.Data.{Data, Members, Items as Values, no_items as no_values, item}
 use Rattle.serde_json.specs.Events.{items_len}
-use Rattle.serde_json.specs.Find.{as_array, get_member}
+use Rattle.serde_json.specs.Find.{as_array, as_object, get_member}
 use Rattle.rv_fields.specs.Attempt.{◌>>=◌}
+use Rattle.rv_fields.specs.RowTable.{ins_called}
+use Rattle.region_plan.specs.Pinned.{bare_pins}
 use Rattle.region_plan.specs.declared.job.Job.{Job}
 use Rattle.region_plan.specs.Plan.{HartPlan, Work, no_hart}
-use Rattle.region_plan.specs.Request.{Items, Request, no_items, one}
+use Rattle.region_plan.specs.Request.{Items, Pins, Request, no_items, one}
 use Rattle.region_plan.specs.Rules.{IsMakeable, IsMakeableRequest, IsPlainHart, KeepsRules, most_harts, most_requests}
 use Rattle.region_plan.specs.Script.{script_of}
 use Rattle.region_plan.specs.Views.{work_of, work_with}
 use Rattle.choice_tree.specs.declared.input.InputFault.{InputFault}
 use Rattle.choice_tree.specs.Input.{Reads}
-use Rattle.choice_tree.specs.Json.{object_of, natural_at, integer_at, text_at}
-use Rattle.job_read.specs.Accepted.{register_at, addi_of, add_of, request_of, items_of, template_at, hart_of, harts_of, harts_at, job_of}
+use Rattle.choice_tree.specs.Json.{integer, object_of, natural_at, text_at}
+use Rattle.job_read.specs.Accepted.{given_by, pins_of, register, request_of, items_of, template_at, hart_of, harts_of, harts_at, job_of}
 
 -- two steps that found something: the first found what the second goes on with
 both_found : {A B : Type 0} (first : Option A) (next : A → Option B) (found : B) → (first >>= next) ≡ Some found → (x : A) × (first ≡ Some x) × (next x ≡ Some found)
 both_found None next found e = absurd cc
 both_found (Some x) next found e = (x, refl, e)
 
--- a number that is a register
-register_small : (key : List ℕ) (members : Members) (register : ℕ) → register_at key members ≡ Some register → register < 32
-register_small key members register e =
-    let number = both_found (natural_at key members) _ register e in
-    let passed = cond_some _ _ register number.2 in
-    rw (← passed.1) (ltb-true _ _ passed.0)
+-- the operands that are read are all that an item has
+pins_alone : (members : Members) (pins : Pins) → pins_of members ≡ Some pins → pins ≡ bare_pins pins.rd pins.rs1 pins.rs2 pins.imm
+pins_alone members pins e =
+    let rd = both_found (given_by register (get_member (codes "rd") members)) _ pins e in
+    let rs1 = both_found (given_by register (get_member (codes "rs1") members)) _ pins rd.2 in
+    let rs2 = both_found (given_by register (get_member (codes "rs2") members)) _ pins rs1.2 in
+    let imm = both_found (given_by integer (get_member (codes "imm") members)) _ pins rs2.2 in
+    let is_pins : bare_pins rd.0 rs1.0 rs2.0 imm.0 ≡ pins = same_Some _ _ imm.2 in
+    subst (λ (p : Pins). p ≡ bare_pins p.rd p.rs1 p.rs2 p.imm) is_pins refl
 
 -- a request that is accepted can be made
-addi_makeable : (members : Members) (request : Request) → addi_of members ≡ Some request → IsMakeableRequest request
-addi_makeable members request e =
-    let rd = both_found (register_at (codes "rd") members) _ request e in
-    let rs1 = both_found (register_at (codes "rs1") members) _ request rd.2 in
-    let imm = both_found (integer_at (codes "imm") members) _ request rs1.2 in
-    let passed = cond_some _ _ request imm.2 in
-    subst IsMakeableRequest passed.1 (inl (
-      refl,
-      record {
-        plain = record {
-          aqrl = refl;
-          avoid = refl;
-          zero = refl;
-          rd = register_small (codes "rd") members rd.0 rd.1;
-          rs1 = register_small (codes "rs1") members rs1.0 rs1.1;
-        };
-        rs2 = refl;
-        imm = passed.0;
-      },
-    ))
-
-add_makeable : (members : Members) (request : Request) → add_of members ≡ Some request → IsMakeableRequest request
-add_makeable members request e =
-    let rd = both_found (register_at (codes "rd") members) _ request e in
-    let rs1 = both_found (register_at (codes "rs1") members) _ request rd.2 in
-    let rs2 = both_found (register_at (codes "rs2") members) _ request rs1.2 in
-    subst IsMakeableRequest (same_Some _ _ rs2.2) (inr (
-      refl,
-      record {
-        plain = record {
-          aqrl = refl;
-          avoid = refl;
-          zero = refl;
-          rd = register_small (codes "rd") members rd.0 rd.1;
-          rs1 = register_small (codes "rs1") members rs1.0 rs1.1;
-        };
-        rs2 = register_small (codes "rs2") members rs2.0 rs2.1;
-        imm = refl;
-      },
-    ))
-
 request_makeable : (value : Data) (request : Request) → request_of value ≡ Some request → IsMakeableRequest request
 request_makeable value request e =
-    let members = both_found (object_of 4 value) _ request e in
+    let members = both_found (as_object value) _ request e in
     let name = both_found (text_at (codes "ins") members.0) _ request members.2 in
-    by (bytes_eq name.0 (codes "addi")) (bytes_eq name.0 (codes "add")) members.0 name.2
-  where
-    by : (a b : Bool) (members : Members) → cond a (addi_of members) (cond b (add_of members) None) ≡ Some request → IsMakeableRequest request
-    by true b ms e = addi_makeable ms request e
-    by false true ms e = add_makeable ms request e
-    by false false ms e = absurd cc
+    let ins = both_found (ins_called name.0) _ request name.2 in
+    let pins = both_found (pins_of members.0) _ request ins.2 in
+    let passed = cond_some _ _ request pins.2 in
+    subst IsMakeableRequest passed.1 (record { whole = (and_parts _ _ passed.0).1; alone = pins_alone members.0 pins.0 pins.1 })
 
 -- accepted items can be made, and are as many as their values
 items_makeable : (values : Values) (items : Items) → items_of values ≡ Some items

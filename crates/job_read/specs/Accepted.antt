@@ -1,52 +1,62 @@
 -- The jobs that are accepted, as the JSON values that they are.
-use Rattle.std.specs.Prelude.{ℕ, ℤ, List, [], ◌∷◌, codes, false, nat_lt, nat_le, ◌==◌, ◌&&◌, Option, Some, None, if◌then◌else◌}
+use Rattle.std.specs.Prelude.{ℕ, ◌+◌, List, [], ◌∷◌, codes, nat_lt, nat_le, ◌==◌, ◌&&◌, Option, Some, None, if◌then◌else◌}
 use Rattle.std.specs.Str.{bytes_eq}
 use Rattle.serde_json.specs.Data.{Data, Members, Items as Values, no_items as no_values, item}
-use Rattle.serde_json.specs.Events.{items_len}
-use Rattle.serde_json.specs.Find.{as_array, get_member}
+use Rattle.serde_json.specs.Events.{items_len, members_len}
+use Rattle.serde_json.specs.Find.{as_array, as_object, get_member}
 use Rattle.rv_fields.specs.declared.row_table.Ins.{Ins}
-use Rattle.rv_fields.specs.declared.row_table.Ins.TheVariants.{Addi, Add}
 use Rattle.rv_fields.specs.Attempt.{◌>>=◌}
-use Rattle.rv_fields.specs.Immediate.{fits_i}
+use Rattle.rv_fields.specs.RowTable.{ins_called}
+use Rattle.region_plan.specs.Pinned.{bare_pins, is_fully_pinned}
 use Rattle.region_plan.specs.Plan.{HartPlan, Work, no_hart}
-use Rattle.region_plan.specs.Request.{Items, Request, a_plain, an_ins, named_ins, no_items, one}
+use Rattle.region_plan.specs.Request.{Items, Pins, Request, a_plain, an_ins, named_ins, no_items, one}
 use Rattle.region_plan.specs.Rules.{most_harts, most_requests}
 use Rattle.region_plan.specs.Views.{work_with}
-use Rattle.choice_tree.specs.Json.{document, object_of, natural_at, integer_at, text_at}
+use Rattle.choice_tree.specs.Json.{document, integer, natural, natural_at, object_of, text_at}
 
 -- a register: a number below 32
-abbrev pub register_at : List ℕ → Members → Option ℕ
-register_at key members = do
-  number ← natural_at key members
+abbrev pub register : Data → Option ℕ
+register value = do
+  number ← natural value
   if nat_lt number 32 then Some number else None
 
--- the request for an instruction with these operands, and with no register to avoid
-abbrev pub request_for : Ins → ℕ → ℕ → Option ℕ → Option ℤ → Request
-request_for ins rd rs1 rs2 imm =
-    a_plain (an_ins (named_ins ins) (record { rd = Some rd; rs1 = Some rs1; rs2 = rs2; imm = imm; aqrl = 0; avoid = []; zero_rs1 = false }))
+-- an operand that an item may give, as it is read
+abbrev pub given_by : {A : Type 0} → (Data → Option A) → Option Data → Option (Option A)
+given_by read None = Some None
+given_by read (Some value) = do
+  operand ← read value
+  Some (Some operand)
 
--- {"ins":"addi","rd":R,"rs1":S,"imm":I}, with an I that fits
-abbrev pub addi_of : Members → Option Request
-addi_of members = do
-  rd ← register_at (codes "rd") members
-  rs1 ← register_at (codes "rs1") members
-  imm ← integer_at (codes "imm") members
-  if fits_i imm then Some (request_for Addi rd rs1 None (Some imm)) else None
+-- the operands of an item, each at its key
+abbrev pub pins_of : Members → Option Pins
+pins_of members = do
+  rd ← given_by register (get_member (codes "rd") members)
+  rs1 ← given_by register (get_member (codes "rs1") members)
+  rs2 ← given_by register (get_member (codes "rs2") members)
+  imm ← given_by integer (get_member (codes "imm") members)
+  Some (bare_pins rd rs1 rs2 imm)
 
--- {"ins":"add","rd":R,"rs1":S,"rs2":T}
-abbrev pub add_of : Members → Option Request
-add_of members = do
-  rd ← register_at (codes "rd") members
-  rs1 ← register_at (codes "rs1") members
-  rs2 ← register_at (codes "rs2") members
-  Some (request_for Add rd rs1 (Some rs2) None)
+abbrev pub one_if_given : {A : Type 0} → Option A → ℕ
+one_if_given None = 0
+one_if_given (Some operand) = 1
 
--- an item of either instruction; it has no more members than these
+-- how many keys an item with these operands has: the leading one, and one for each
+abbrev pub key_count : Pins → ℕ
+key_count pins = 1 + one_if_given pins.rd + one_if_given pins.rs1 + one_if_given pins.rs2 + one_if_given pins.imm
+
+-- the request of an item with so many keys: an instruction that computes a value, with all the operands of its form, and no more
+abbrev pub request_for : Ins → Pins → ℕ → Option Request
+request_for ins pins keys =
+    if (keys == key_count pins) && is_fully_pinned ins pins then Some (a_plain (an_ins (named_ins ins) pins)) else None
+
+-- {"ins":NAME, ..}
 abbrev pub request_of : Data → Option Request
 request_of value = do
-  members ← object_of 4 value
+  members ← as_object value
   name ← text_at (codes "ins") members
-  if bytes_eq name (codes "addi") then addi_of members else if bytes_eq name (codes "add") then add_of members else None
+  ins ← ins_called name
+  pins ← pins_of members
+  request_for ins pins (members_len members)
 
 -- the items of a template: each is a request
 abbrev pub items_of : Values → Option Items

@@ -1,12 +1,15 @@
 ghost use Rattle.std.specs.Prelude.{◌≡◌, option_map};
+ghost use Rattle.serde_json.specs.Find.{get_member};
 ghost use Rattle.serde_json.specs.View.{view, items_view, members_view};
 ghost use Rattle.choice_tree.specs.Input.{Reads};
-ghost use Rattle.region_plan.specs.Views.{items_seen, request_seen};
-ghost use Rattle.job_read.specs.Accepted.{register_at, addi_of, add_of, request_of, items_of};
+ghost use Rattle.choice_tree.specs.Json.{integer};
+ghost use Rattle.region_plan.specs.Views.{items_seen, pins_seen, request_seen};
+ghost use Rattle.job_read.specs.Accepted.{given_by, items_of, key_count, pins_of, register, request_for, request_of};
 
-use choice_tree::{InputFault, Members, integer_at, natural_at, object_of, text_at};
+use choice_tree::{InputFault, Members, text_at, value_at};
 use region_plan::{InsChoice, Item, Pins, Request};
-use rv_fields::{Ins, fits_i};
+use rv_fields::Ins;
+use rv_table::by_name;
 use serde_json::Value;
 use std::alloc::Global;
 
@@ -22,58 +25,78 @@ pub(crate) fn items_of(alloc: Global, values: &[Value]) -> Result<Vec<Item>, Inp
     Ok(items)
 }
 
+/// The request of an item: an instruction with all of its operands.
+#[tactic(auto, using(choice_tree::proofs::Reading::lengths))]
 fn request_of(value: &Value) -> Option<Request>
     ensures { option_map request_seen result ≡ request_of (view value.now) }
 {
-    let members = object_of(4, value)?;
-    match text_at("ins", members)? {
-        "addi" => addi_of(members),
-        "add" => add_of(members),
-        _ => None,
+    let members = value.as_object()?;
+    let ins = by_name(text_at("ins", members)?)?;
+    let pins = pins_of(members)?;
+    request_for(ins, pins, members.len())
+}
+
+/// The request of an item with so many keys, where these are all that it may have.
+fn request_for(ins: Ins, pins: Pins, keys: usize) -> Option<Request>
+    ensures { option_map request_seen result ≡ request_for ins (pins_seen pins) keys }
+{
+    if keys == key_count(&pins) && pins.are_all_pinned(ins) {
+        Some(Request::Ins {
+            ins: InsChoice::Named(ins),
+            pins,
+        })
+    } else {
+        None
     }
 }
 
-/// The request of an item whose instruction is `addi`.
-fn addi_of(members: &Members) -> Option<Request>
-    ensures { option_map request_seen result ≡ addi_of (members_view members.now.entries) }
+/// The operands that the item gives.
+fn pins_of(members: &Members) -> Option<Pins>
+    ensures { option_map pins_seen result ≡ pins_of (members_view members.now.entries) }
 {
-    let rd = register_at("rd", members)?;
-    let rs1 = register_at("rs1", members)?;
-    let imm = integer_at("imm", members)?;
-    fits_i(imm).then_some(Request::Ins {
-        ins: InsChoice::Named(Ins::Addi),
-        pins: Pins {
-            rd: Some(rd),
-            rs1: Some(rs1),
-            rs2: None,
-            imm: Some(imm),
-        },
+    Some(Pins {
+        rd: register_at("rd", members)?,
+        rs1: register_at("rs1", members)?,
+        rs2: register_at("rs2", members)?,
+        imm: integer_at("imm", members)?,
     })
 }
 
-/// The request of an item whose instruction is `add`.
-fn add_of(members: &Members) -> Option<Request>
-    ensures { option_map request_seen result ≡ add_of (members_view members.now.entries) }
+/// How many keys an item with these operands has.
+fn key_count(pins: &Pins) -> usize
+    ensures { result ≡ key_count (pins_seen pins.now) }
 {
-    let rd = register_at("rd", members)?;
-    let rs1 = register_at("rs1", members)?;
-    let rs2 = register_at("rs2", members)?;
-    Some(Request::Ins {
-        ins: InsChoice::Named(Ins::Add),
-        pins: Pins {
-            rd: Some(rd),
-            rs1: Some(rs1),
-            rs2: Some(rs2),
-            imm: None,
-        },
-    })
+    1 + usize::from(pins.rd.is_some())
+        + usize::from(pins.rs1.is_some())
+        + usize::from(pins.rs2.is_some())
+        + usize::from(pins.imm.is_some())
 }
 
-/// The register at a key: a number below 32.
-fn register_at(key: &str, members: &Members) -> Option<u8>
-    ensures { result ≡ register_at key.now (members_view members.now.entries) }
+/// The register at a key, where there is one.
+fn register_at(key: &str, members: &Members) -> Option<Option<u8>>
+    ensures { result ≡ given_by register (get_member key.now (members_view members.now.entries)) }
 {
-    let number = natural_at(key, members)?;
+    match value_at(key, members) {
+        Some(value) => Some(Some(register(value)?)),
+        None => Some(None),
+    }
+}
+
+/// The whole number at a key, where there is one.
+fn integer_at(key: &str, members: &Members) -> Option<Option<i64>>
+    ensures { result ≡ given_by integer (get_member key.now (members_view members.now.entries)) }
+{
+    match value_at(key, members) {
+        Some(value) => Some(Some(value.as_i64()?)),
+        None => Some(None),
+    }
+}
+
+/// A register: a number below 32.
+fn register(value: &Value) -> Option<u8>
+    ensures { result ≡ register (view value.now) }
+{
+    let number = value.as_u64()?;
     if number < 32 {
         Some(number as u8)
     } else {

@@ -81,6 +81,37 @@ fn reads_a_sum_of_two_registers(rt: HostRuntime) -> Result<(), Fail> {
 }
 
 #[test]
+fn reads_a_request_without_sources(rt: HostRuntime) -> Result<(), Fail> {
+    let text = job_of(rt.alloc(), r#"{"ins":"lui","imm":-4096,"rd":3}"#)?;
+    let job = read_job(rt.alloc(), text.as_bytes())?;
+    let pins = Pins {
+        rd: Some(3),
+        rs1: None,
+        rs2: None,
+        imm: Some(-4096),
+    };
+    assert_eq!(rt; job.hart_count(), 1);
+    assert_eq!(rt; job.template(0), [item(Ins::Lui, pins)].as_slice());
+    Ok(())
+}
+
+#[test]
+fn reads_shift_amounts(rt: HostRuntime) -> Result<(), Fail> {
+    for (ins, imm, fits) in [
+        ("slli", 63, true),
+        ("slli", 64, false),
+        ("sraiw", 31, true),
+        ("sraiw", 32, false),
+        ("srli", -1, false),
+    ] {
+        let request = format!(in rt.alloc(); r#"{{"ins":"{ins}","rd":31,"rs1":0,"imm":{imm}}}"#)?;
+        let text = job_of(rt.alloc(), request.as_str())?;
+        assert_eq!(rt; is_not_built(rt.alloc(), text.as_str()), !fits, "{request}");
+    }
+    Ok(())
+}
+
+#[test]
 fn reads_two_harts_in_order(rt: HostRuntime) -> Result<(), Fail> {
     let first = hart_of(rt.alloc(), list_of(rt.alloc(), ADDI, 3)?.as_str())?;
     let text = file_of(
@@ -164,8 +195,13 @@ fn refuses_other_requests(rt: HostRuntime) -> Result<(), Fail> {
         r#"{"ins":"add","rd":1,"rs1":0,"imm":5}"#,
         r#"{"ins":"add","rd":1,"rs1":0,"rs2":32}"#,
         r#"{"ins":"add","rd":1,"rs1":0,"rs2":2,"imm":0}"#,
-        r#"{"ins":"sub","rd":1,"rs1":0,"rs2":2}"#,
+        r#"{"ins":"sub","rd":1,"rs1":0,"imm":2}"#,
+        r#"{"ins":"lui","rd":1,"imm":1}"#,
+        r#"{"ins":"slliw","rd":1,"rs1":0,"imm":32}"#,
         r#"{"ins":"jal","rd":1,"imm":8}"#,
+        r#"{"ins":"jalr","rd":1,"rs1":0,"imm":8}"#,
+        r#"{"ins":"lw","rd":1,"rs1":0,"imm":8}"#,
+        r#"{"ins":"fence","rd":0,"rs1":0,"imm":0}"#,
         r#"{"ins":"addi","rd":"1","rs1":0,"imm":5}"#,
         r#"{"ins":"addi","rd":1,"rs1":0}"#,
         r#"{"ins":"addi","rd":1,"rs1":0,"imm":5,"avoid":0}"#,

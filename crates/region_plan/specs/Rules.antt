@@ -1,40 +1,15 @@
 -- The rules that a job keeps, by which its run is sure to answer it.
-use Rattle.std.specs.Prelude.{ℕ, ◌≡◌, ◌⊎◌, ◌<◌, ◌≤◌, [], length, Option, None, false, IsTrue, IsSomeAnd}
+use Rattle.std.specs.Prelude.{ℕ, ◌≡◌, ◌≤◌, length}
 use Rattle.std.specs.List.{AllByRecursion}
-use Rattle.rv_fields.specs.declared.row_table.Ins.TheVariants.{Addi, Add}
-use Rattle.rv_fields.specs.Immediate.{fits_i}
+use Rattle.region_plan.specs.Pinned.{IsFullyPinned}
 use Rattle.region_plan.specs.Plan.{HartPlan, Work, hart_count, no_hart}
 use Rattle.region_plan.specs.Request.{InsChoice, Pins, Plain, Request, a_csr, a_jump, a_loop, a_mem, a_pick, a_plain, a_set, a_sys, a_value, an_ins, by_tree, named_ins, no_arms}
 use Rattle.region_plan.specs.Script.{ScriptItem, script_of}
 use Rattle.region_plan.specs.Views.{work_with}
 
--- a register that is pinned
-abbrev pub IsPinned : Option ℕ → Type 0
-IsPinned pin = IsSomeAnd pin (λ r. r < 32)
-
--- nothing is pinned that no instruction of the two has, and no register is to be avoided
-pub record IsPlain (pins : Pins) : Type 0 where
-  pub aqrl : pins.aqrl ≡ 0
-  pub avoid : pins.avoid ≡ []
-  pub zero : pins.zero_rs1 ≡ false
-  pub rd : IsPinned pins.rd
-  pub rs1 : IsPinned pins.rs1
-
--- pins that the word of addi can hold
-pub record FitAddi (pins : Pins) : Type 0 where
-  pub plain : IsPlain pins
-  pub rs2 : pins.rs2 ≡ None
-  pub imm : IsSomeAnd pins.imm (λ i. IsTrue (fits_i i))
-
--- pins that the word of add can hold
-pub record FitAdd (pins : Pins) : Type 0 where
-  pub plain : IsPlain pins
-  pub rs2 : IsPinned pins.rs2
-  pub imm : pins.imm ≡ None
-
--- an instruction that can be made: addi or add, with all its operands pinned
+-- an instruction that can be made: it is named, and all its operands are given
 abbrev pub IsMakeableIns : InsChoice → Pins → Type 0
-IsMakeableIns (named_ins ins) pins = ((ins ≡ Addi) × FitAddi pins) ⊎ ((ins ≡ Add) × FitAdd pins)
+IsMakeableIns (named_ins ins) pins = IsFullyPinned ins pins
 IsMakeableIns (by_tree tree) pins = ⊥
 
 abbrev pub IsMakeablePlain : Plain → Type 0

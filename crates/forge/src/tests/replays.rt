@@ -6,7 +6,8 @@ use std::process::Abort;
 use std::test::*;
 use store_face::MemStore;
 
-const REPLAY: [&str; 4] = ["replay", "e", "o", "r"];
+/// The words of the command that replays the files of `make-serial`.
+pub const REPLAY: [&str; 4] = ["replay", "e", "o", "r"];
 
 /// A store with the files of the first example.
 fn made(rt: &impl Abort, alloc: Global) -> Result<MemStore, Fail> {
