@@ -13,8 +13,8 @@ use Rattle.region_plan.specs.Plan.{Work, hart_count}
 use Rattle.trace_text.specs.Lines.{Line}
 use Rattle.job_read.specs.Accepted.{job_in}
 use Rattle.forge.specs.declared.made.Made.{Made}
-use Rattle.trace_text.specs.declared.fault.LineFault.TheVariants.{At}
-use Rattle.trace_text.specs.declared.fault.LineFault.TheVariants as line_faults
+use Rattle.trace_fields.specs.declared.fault.LineFault.TheVariants.{At}
+use Rattle.trace_fields.specs.declared.fault.LineFault.TheVariants as line_faults
 use Rattle.trace_replay.specs.declared.verdict.ReplayFault.{ReplayFault}
 use Rattle.trace_replay.specs.declared.verdict.ReplayFault.TheVariants as faults
 use Rattle.trace_replay.specs.declared.verdict.Verdict.{Verdict}

@@ -5,7 +5,7 @@ use Rattle.std.specs.List.{AllByRecursion}
 use Rattle.std.specs.Option.{option_or}
 use Rattle.choice_tree.specs.Forest.{Forest, forest_in}
 use Rattle.region_plan.specs.Plan.{Work, hart_count}
-use Rattle.trace_text.specs.Fields.{Place}
+use Rattle.trace_fields.specs.Fields.{Place}
 use Rattle.trace_text.specs.Lines.{Line}
 use Rattle.trace_text.specs.Orders.{order_fault}
 use Rattle.trace_text.specs.Traces.{trace_fault}

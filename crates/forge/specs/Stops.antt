@@ -9,7 +9,7 @@ use Rattle.forge.specs.declared.made.Counts.{Counts}
 use Rattle.forge.specs.declared.made.Made.{Made}
 use Rattle.forge.specs.declared.serial.MakeSerial.{MakeSerial}
 use Rattle.elf_file.specs.Messages.{message as elf_message}
-use Rattle.trace_text.specs.Messages.{message as line_message}
+use Rattle.trace_fields.specs.Messages.{message as line_message}
 use Rattle.trace_replay.specs.declared.verdict.ReplayFault.{ReplayFault}
 use Rattle.trace_replay.specs.declared.verdict.ReplayFault.TheVariants as faults
 use Rattle.forge.specs.declared.replaying.Replay.{Replay}

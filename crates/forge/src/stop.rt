@@ -8,7 +8,7 @@ use rv_fields::NoMemory;
 use std::alloc::AllocFailed;
 use std::fmt;
 use store_face::StoreFault;
-use trace_text::LineFault;
+use trace_fields::LineFault;
 
 /// Why a file isn't accepted.
 #[derive(Clone, Copy, Debug, PartialEq, Eq)]

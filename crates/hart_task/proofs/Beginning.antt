@@ -13,7 +13,7 @@ use Rattle.region_plan.specs.Request.{Quiet, no_arms}
 use Rattle.region_plan.specs.Rules.{IsMakeable, KeepsRules}
 use Rattle.region_plan.specs.Script.{ScriptItem, script_of}
 use Rattle.region_plan.specs.Views.{items_seen, request_seen}
-use Rattle.trace_text.specs.declared.line.Kind.TheVariants as kinds
+use Rattle.trace_fields.specs.declared.request.Kind.TheVariants as kinds
 use Rattle.trace_text.specs.Lines.{Line, request, starting}
 use Rattle.boot_words.specs.Layout.{code_address}
 use Rattle.hart_task.specs.Acts.{begins, event_of}

@@ -35,7 +35,7 @@ use Rattle.region_plan.specs.Rules.{IsMakeable, IsMakeableRequest, IsPlainHart, 
 use Rattle.region_plan.specs.Script.{ScriptItem}
 use Rattle.region_plan.specs.Views.{request_seen}
 use Rattle.boot_words.specs.Layout.{code_start, window_at, window_by, window_words}
-use Rattle.trace_text.specs.declared.line.Cause.TheVariants.{NoRegister}
+use Rattle.trace_fields.specs.declared.request.Cause.TheVariants.{NoRegister}
 use Rattle.hart_task.specs.Acts.{begins}
 use Rattle.hart_task.specs.Asking.{word_asked}
 use Rattle.hart_task.specs.Beginning.{Prepared, cause_of, holds_cause, makes, prepared}

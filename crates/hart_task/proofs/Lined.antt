@@ -10,7 +10,7 @@ use Rattle.rv_fields.specs.Play.{Machine}
 use Rattle.rv_fields.specs.declared.access.Accessed.{Accessed}
 use Rattle.region_plan.specs.Plan.{Work}
 use Rattle.trace_text.specs.Lines.{Line, done, effect_of, effects_of, ending, fixed, found, given, made, picked, refused, request, settled, touched, weighed}
-use Rattle.trace_text.specs.declared.line.Cause.{Cause}
+use Rattle.trace_fields.specs.declared.request.Cause.{Cause}
 use Rattle.world_face.specs.Events.{Event}
 use Rattle.world_face.specs.Told.{Run, Told, Weighing, access_told, entry_lines, first, frame_lines, nothing_told, runs_told, told_by}
 use Rattle.world_face.proofs.Bytes.{RunsStand}

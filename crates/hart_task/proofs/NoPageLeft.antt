@@ -12,8 +12,8 @@ use Rattle.choice_tree.specs.Draws.{word_of}
 use Rattle.boot_words.specs.Startup.{start_csrs, start_mode}
 use Rattle.region_plan.specs.Plan.{Work}
 use Rattle.region_plan.specs.Request.{a_plain, no_items, one}
-use Rattle.trace_text.specs.declared.line.Cause.TheVariants.{NoFreePage}
-use Rattle.trace_text.specs.declared.line.Kind.TheVariants as kinds
+use Rattle.trace_fields.specs.declared.request.Cause.TheVariants.{NoFreePage}
+use Rattle.trace_fields.specs.declared.request.Kind.TheVariants as kinds
 use Rattle.trace_text.specs.Lines.{done, fixed, given, made, refused, request, settled, touched}
 use Rattle.world_face.specs.Events.{Event, Frames, nothing_asked}
 use Rattle.hart_task.specs.OneRun.{IsFinishedRun}

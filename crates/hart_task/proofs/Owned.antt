@@ -13,7 +13,7 @@ use Rattle.choice_tree.specs.Draws.{Draws, next_word, skipped}
 use Rattle.boot_words.specs.Layout.{shard_of}
 use Rattle.region_plan.specs.Plan.{Work}
 use Rattle.trace_text.specs.Lines.{Line, done, ending, fixed, fixed_by, found, given, made, picked, refused, request, settled, starting, touched, weighed}
-use Rattle.trace_text.proofs.Joins.{all_append}
+use Rattle.trace_fields.proofs.Joins.{all_append}
 use Rattle.world_face.specs.Events.{Event, Settle, Wanted, no_parts}
 use Rattle.world_face.specs.Runs.{Runs}
 use Rattle.world_face.specs.Told.{Weighing}

@@ -14,7 +14,7 @@ use Rattle.choice_tree.specs.Draws.{word_of}
 use Rattle.boot_words.specs.Startup.{start_csrs, start_mode}
 use Rattle.region_plan.specs.Plan.{HartPlan, Work}
 use Rattle.region_plan.specs.Request.{Quiet, a_mem, a_plain, a_value, named_ins, no_items, one, one_address}
-use Rattle.trace_text.specs.declared.line.Kind.TheVariants as kinds
+use Rattle.trace_fields.specs.declared.request.Kind.TheVariants as kinds
 use Rattle.trace_text.specs.Lines.{done, fixed, given, made, request, settled}
 use Rattle.world_face.specs.Events.{Event}
 use Rattle.hart_task.specs.OneRun.{IsFinishedRun}

@@ -10,8 +10,8 @@ use Rattle.rv_fields.specs.declared.row_table.Ins.TheVariants.{Sd}
 use Rattle.boot_words.specs.Startup.{start_csrs, start_mode}
 use Rattle.region_plan.specs.Plan.{Work}
 use Rattle.region_plan.specs.Request.{Quiet, a_mem, a_plain, named_ins, no_items, one, one_address}
-use Rattle.trace_text.specs.declared.line.Cause.TheVariants.{NoRegister}
-use Rattle.trace_text.specs.declared.line.Kind.TheVariants as kinds
+use Rattle.trace_fields.specs.declared.request.Cause.TheVariants.{NoRegister}
+use Rattle.trace_fields.specs.declared.request.Kind.TheVariants as kinds
 use Rattle.trace_text.specs.Lines.{refused, request}
 use Rattle.world_face.specs.Events.{Event, nothing_asked}
 use Rattle.hart_task.specs.OneRun.{IsFinishedRun}

@@ -14,7 +14,7 @@ use Rattle.region_plan.specs.Script.{ScriptItem, script_for}
 use Rattle.operand_solver.specs.Operands.{Operand, behind_operand, value_of_operand}
 use Rattle.place_solver.specs.Placing.{Placed, base_of, narrowed, near, placed, placed_at}
 use Rattle.table_space.specs.Tables.{with_entries}
-use Rattle.trace_text.specs.declared.line.Cause.{Cause}
+use Rattle.trace_fields.specs.declared.request.Cause.{Cause}
 use Rattle.world_face.specs.Events.{Settle, Short, Wanted}
 use Rattle.hart_task.specs.Acts.{Act, Begun, Came, Fixing, Picking, answers, begins, gives_up, is_found, is_last, is_made, is_memory, refuses, steps}
 use Rattle.hart_task.specs.Beginning.{Prepared, cause_of, ins_by, is_late, makes, mem_prepared, plain_prepared, prepared, settle_of, value_prepared, words_needed}

@@ -13,8 +13,8 @@ use Rattle.boot_words.specs.Startup.{start_csrs, start_mode}
 use Rattle.region_plan.specs.Plan.{Work, no_hart}
 use Rattle.region_plan.specs.Request.{Quiet, a_jump, a_plain, an_ins, named_ins, no_items, one}
 use Rattle.region_plan.specs.Views.{work_with}
-use Rattle.trace_text.specs.declared.line.Cause.TheVariants.{WindowFull}
-use Rattle.trace_text.specs.declared.line.Kind.TheVariants as kinds
+use Rattle.trace_fields.specs.declared.request.Cause.TheVariants.{WindowFull}
+use Rattle.trace_fields.specs.declared.request.Kind.TheVariants as kinds
 use Rattle.trace_text.specs.Lines.{done, made, refused, request}
 use Rattle.world_face.specs.Events.{Event}
 use Rattle.hart_task.specs.OneRun.{IsFinishedRun}

@@ -1,6 +1,6 @@
 -- What a hart does in one event: its kinds, and for each the lines, the parts that are held and what is asked of them.
 --
-use Rattle.trace_text.specs.declared.line.Kind.TheVariants as kinds
+use Rattle.trace_fields.specs.declared.request.Kind.TheVariants as kinds
 use Rattle.std.specs.Option.{option_map_or, option_or}
 use Rattle.std.specs.Prelude.{Bool, List, None, Option, Some, false, get_or, is_some, map, option_map, option_to_list, true, ℕ, ◌*◌, ◌||◌, ◌∷◌, ◌++◌, [], if◌then◌else◌}
 use Rattle.boot_words.specs.Layout.{shard_of}
@@ -8,11 +8,11 @@ use Rattle.region_plan.specs.Plan.{Work, plan_of}
 use Rattle.region_plan.specs.Request.{Plain, Request, a_csr, a_jump, a_loop, a_mem, a_pick, a_plain, a_set, a_sys, a_value, an_ins}
 use Rattle.rv_fields.specs.Effect.{Effect}
 use Rattle.rv_fields.specs.declared.access.Accessed.{Accessed}
-use Rattle.trace_text.specs.declared.line.Cause.{Cause}
-use Rattle.trace_text.specs.declared.line.Kind.{Kind}
+use Rattle.trace_fields.specs.declared.request.Cause.{Cause}
+use Rattle.trace_fields.specs.declared.request.Kind.{Kind}
 use Rattle.rv_fields.specs.Name.{Name}
 use Rattle.trace_text.specs.Lines.{Line, done, ending, fixed, found, made, picked, refused, request, touched, weighed}
-use Rattle.trace_text.specs.declared.line.Cause.TheVariants.{NoPlace}
+use Rattle.trace_fields.specs.declared.request.Cause.TheVariants.{NoPlace}
 use Rattle.world_face.specs.declared.parts.Parts.{Parts}
 use Rattle.world_face.specs.Events.{Asked, Event, Settle, Short, Wanted, no_parts, nothing_asked}
 use Rattle.world_face.specs.Told.{Run, Weighing}

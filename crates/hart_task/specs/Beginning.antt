@@ -19,9 +19,9 @@ use Rattle.rv_fields.specs.RowTable.{ins_called, value_of}
 use Rattle.rv_fields.specs.Sv39.{is_canonical}
 use Rattle.rv_fields.specs.declared.row_table.Ins.{Ins}
 use Rattle.rv_fields.specs.declared.row_table.Ins.TheVariants.{Addi, Ebreak, Ecall, Mret, SfenceVma, Sret}
-use Rattle.trace_text.specs.declared.line.Cause.{Cause}
+use Rattle.trace_fields.specs.declared.request.Cause.{Cause}
 use Rattle.rv_fields.specs.Name.{Name}
-use Rattle.trace_text.specs.declared.line.Cause.TheVariants.{BudgetSpent, EmptyChoice, NoAddress, NoFreePage, NoPlace, NoRegister, NoTarget, WindowFull}
+use Rattle.trace_fields.specs.declared.request.Cause.TheVariants.{BudgetSpent, EmptyChoice, NoAddress, NoFreePage, NoPlace, NoRegister, NoTarget, WindowFull}
 use Rattle.world_face.specs.Events.{Settle}
 
 -- ---- the instruction

@@ -9,8 +9,8 @@ use Rattle.rv_fields.specs.Effect.{Effect}
 use Rattle.region_plan.specs.Plan.{Work}
 use Rattle.region_plan.specs.Request.{InsChoice, Pins, Plain, Request, a_csr, a_jump, a_loop, a_mem, a_pick, a_plain, a_set, a_sys, a_value, an_ins, by_tree, named_ins}
 use Rattle.region_plan.specs.Script.{ScriptItem, cost}
-use Rattle.trace_text.specs.declared.line.Cause.{Cause}
-use Rattle.trace_text.specs.declared.line.Cause.TheVariants.{EmptyChoice, BudgetSpent, NoRegister, NoAddress, NoTarget, WindowFull, NoFreePage, NoPlace}
+use Rattle.trace_fields.specs.declared.request.Cause.{Cause}
+use Rattle.trace_fields.specs.declared.request.Cause.TheVariants.{EmptyChoice, BudgetSpent, NoRegister, NoAddress, NoTarget, WindowFull, NoFreePage, NoPlace}
 use Rattle.trace_text.specs.Lines.{Line, request, picked, weighed, fixed, given, settled, touched, made, found, ending, done, refused, effects_of}
 use Rattle.boot_words.specs.Layout.{window_words}
 use Rattle.hart_task.specs.Acts.{request_kind}

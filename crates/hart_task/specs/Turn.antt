@@ -24,7 +24,7 @@ use Rattle.rv_fields.specs.Sv39.{entries_in, translate}
 use Rattle.rv_fields.specs.Class.{width_of}
 use Rattle.rv_fields.specs.declared.row_table.Ins.TheVariants.{Addi, Bne}
 use Rattle.table_space.specs.Tables.{with_entries}
-use Rattle.trace_text.specs.declared.line.Cause.{Cause}
+use Rattle.trace_fields.specs.declared.request.Cause.{Cause}
 use Rattle.rv_fields.specs.Name.{Name}
 use Rattle.world_face.specs.Events.{Event, Settle, Wanted}
 

@@ -15,7 +15,8 @@ use region_plan::{InsChoice, Request};
 use rv_encode::encode;
 use rv_fields::{Ins, Ops};
 use rv_step::{Hart, step};
-use trace_text::{StepLine, TrailText};
+use trace_fields::TrailText;
+use trace_text::StepLine;
 
 /// The instruction that the request asks for.
 fn ins_of(request: Request) -> Ins

@@ -25,7 +25,8 @@ use rv_fields::{Mode, NoMemory};
 use rv_step::Hart;
 use rv_table::decode;
 use std::alloc::Global;
-use trace_text::{Kind, Line, StepLine};
+use trace_fields::Kind;
+use trace_text::{Line, StepLine};
 use value_file::ValueFile;
 use world_face::{Event, Placed, World};
 

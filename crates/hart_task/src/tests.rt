@@ -12,7 +12,8 @@ use rv_fields::{Ins, Mode};
 use std::alloc::{AllocError, Global};
 use std::process::Abort;
 use std::test::*;
-use trace_text::{Kind, Line, StepLine, TrailText};
+use trace_fields::{Kind, TrailText};
+use trace_text::{Line, StepLine};
 use world_face::{Asked, Event, Parts, Taken, World};
 
 /// A world that counts places.

@@ -19,7 +19,7 @@ use Rattle.hart_task.specs.Turn.{Turned, acted, acts, is_of, turned}
 use Rattle.region_plan.specs.Rules.{KeepsRules}
 use Rattle.hart_task.specs.Log.{LogSeen}
 use Rattle.hart_task.specs.Logs.{AreLogsOf}
-use Rattle.trace_text.proofs.Joins.{all_append}
+use Rattle.trace_fields.proofs.Joins.{all_append}
 use Rattle.hart_task.proofs.Lined.{answers_effects, begins_effects, refuses_effects, step_effects, told_silent}
 use Rattle.hart_task.proofs.Viewed.{View, turned_view}
 use Rattle.run_merge.specs.Justified.{order_of}

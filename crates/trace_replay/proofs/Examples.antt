@@ -4,7 +4,7 @@ use Rattle.std.specs.Prelude.{codes}
 use Rattle.std.specs.Fmt.{digits}
 use Rattle.rv_fields.specs.Effect.{Effect}
 use Rattle.trace_text.specs.Lines.{Line, done, ending, made, request}
-use Rattle.trace_text.specs.declared.line.Kind.TheVariants.{Ins}
+use Rattle.trace_fields.specs.declared.request.Kind.TheVariants.{Ins}
 use Rattle.trace_replay.specs.Comparing.{difference, steps_at, steps_differ}
 use Rattle.trace_replay.specs.declared.verdict.LineField.TheVariants.{Boot, Hart, Harts, Rd}
 

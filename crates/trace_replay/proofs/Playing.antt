@@ -12,8 +12,8 @@ use Rattle.rv_fields.specs.Ranges.{AccessInRange, AreBytes, EffectInRange, Entry
 use Rattle.rv_fields.specs.Step.{Stepped, step}
 use Rattle.rv_fields.proofs.Opened.{step_leaves}
 use Rattle.rv_fields.proofs.Ranges.{bytes_stay, ranges_stay}
-use Rattle.trace_text.specs.Readings.{sizes}
-use Rattle.trace_text.specs.Traces.{IsAccess, IsAnyOf, IsEntry, IsTrap, IsWrite}
+use Rattle.trace_fields.specs.Readings.{sizes}
+use Rattle.trace_fields.specs.Ranges.{IsAccess, IsAnyOf, IsEntry, IsTrap, IsWrite}
 use Rattle.trace_replay.proofs.Spelt.{CanSpell}
 use Rattle.trace_replay.proofs.Trails.{IsTold, step_told}
 

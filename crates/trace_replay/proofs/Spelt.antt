@@ -5,12 +5,13 @@ use Rattle.std.specs.Fmt.{decimal, digits}
 use Rattle.rv_fields.specs.declared.access.Accessed.{Accessed}
 use Rattle.rv_fields.specs.declared.trap.Trap.{Trap}
 use Rattle.rv_fields.specs.Effect.{Effect, Entry}
-use Rattle.trace_text.specs.Numbers.{decimal_below, word_of}
-use Rattle.trace_text.specs.Readings.{access_of, hex_of, optional, trail_of, trap_of, write_of}
-use Rattle.trace_text.specs.Text.{access_text, hex, none_text, or_none, step_fields, trail_text, trap_text, word_text, write_text}
-use Rattle.trace_text.specs.Traces.{IsAccess, IsEntry, IsTrap, IsWrite}
-use Rattle.trace_text.proofs.Spells.{Spells}
-use Rattle.trace_text.proofs.Spellings.{hart_spells, hex_spells, optional_access_spells, optional_spells, optional_trap_spells, optional_write_spells, trail_spells, word_spells}
+use Rattle.trace_fields.specs.Numbers.{decimal_below, word_of}
+use Rattle.trace_fields.specs.Readings.{access_of, hex_of, optional, trail_of, trap_of, write_of}
+use Rattle.trace_fields.specs.Text.{access_text, hex, none_text, or_none, trail_text, trap_text, word_text, write_text}
+use Rattle.trace_text.specs.Text.{step_fields}
+use Rattle.trace_fields.specs.Ranges.{IsAccess, IsEntry, IsTrap, IsWrite}
+use Rattle.trace_fields.proofs.Spells.{Spells}
+use Rattle.trace_fields.proofs.Spellings.{hart_spells, hex_spells, optional_access_spells, optional_spells, optional_trap_spells, optional_write_spells, trail_spells, word_spells}
 
 -- what a trace can spell of a step, which may lack a physical address and a word
 pub record CanSpell (harts : ℕ) (e : Effect) : Type 0 where

@@ -2,7 +2,7 @@
 use Rattle.std.specs.Prelude.{ℕ, List, []}
 use Rattle.std.specs.Fmt.{decimal}
 use Rattle.rv_fields.specs.Effect.{Effect}
-use Rattle.trace_text.specs.Text.{access_text, hex, or_none, trail_text, trap_text, word_text, write_text}
+use Rattle.trace_fields.specs.Text.{access_text, hex, or_none, trail_text, trap_text, word_text, write_text}
 use Rattle.trace_replay.specs.declared.shown.Shown.{Shown}
 use Rattle.trace_replay.specs.declared.verdict.LineField.{LineField}
 use Rattle.trace_replay.specs.declared.verdict.LineField.TheVariants.{Harts, Boot, Hart, Pc, Pa, Word, Rd, Access, Trail, Trap}

@@ -4,8 +4,8 @@ use Rattle.std.specs.Fmt.{decimal}
 use Rattle.rv_fields.specs.Effect.{Effect}
 use Rattle.rv_fields.specs.Play.{Machine, Plays}
 use Rattle.rv_machine.specs.declared.reset.Reset.{Reset}
-use Rattle.trace_text.specs.declared.fault.LineFault.TheVariants as line_fault
-use Rattle.trace_text.specs.Fields.{Place}
+use Rattle.trace_fields.specs.declared.fault.LineFault.TheVariants as line_fault
+use Rattle.trace_fields.specs.Fields.{Place}
 use Rattle.trace_text.specs.Lines.{Line, effects_of}
 use Rattle.trace_text.specs.Orders.{order_fault}
 use Rattle.trace_text.specs.Reading.{IsFault}

@@ -10,9 +10,8 @@ use crate::verdict::LineField;
 use rv_machine::Stepped;
 use std::fmt;
 use sv_walk::Trail;
-use trace_text::{
-    AccessText, EntryText, Hex, OrNone, StepLine, TrailText, TrapText, Word, Written,
-};
+use trace_fields::{AccessText, EntryText, Hex, OrNone, TrailText, TrapText, Word, Written};
+use trace_text::StepLine;
 
 /// What is compared of a step.
 #[derive(Clone, Copy, Debug, PartialEq, Eq)]

@@ -1,5 +1,5 @@
 ghost use Rattle.std.specs.Prelude.{◌≡◌, ◌≢◌, Option, Some, string_bytes};
-ghost use Rattle.trace_text.specs.Fields.{Place};
+ghost use Rattle.trace_fields.specs.Fields.{Place};
 ghost use Rattle.trace_text.specs.Reading.{IsFault};
 ghost use Rattle.trace_replay.specs.declared.verdict.ReplayFault.TheVariants.{Memory};
 ghost use Rattle.trace_replay.specs.Verdicts.{IsTraceFault};
@@ -7,7 +7,7 @@ ghost use Rattle.trace_replay.specs.Verdicts.{IsTraceFault};
 use elf_file::ElfFault;
 use rv_fields::NoMemory;
 use std::fmt;
-use trace_text::LineFault;
+use trace_fields::LineFault;
 
 /// What of a line of a trace is compared. A difference in `Harts`, the number of harts, or in the `Boot` of a hart is told of the first line.
 #[derive(Clone, Copy, Debug, PartialEq, Eq)]

@@ -3,7 +3,7 @@ use Rattle.std.proofs.Common.{◌≡◌, List, [], ◌∷◌, refl, Some, None}
 use Rattle.std.specs.Prelude.{codes, replicate}
 use Rattle.std.specs.Fmt.{digits}
 use Rattle.rv_fields.specs.Effect.{Effect}
-use Rattle.trace_text.specs.declared.line.Kind.TheVariants.{Ins}
+use Rattle.trace_fields.specs.declared.request.Kind.TheVariants.{Ins}
 use Rattle.trace_text.specs.Lines.{Line, request, made, ending, done}
 use Rattle.trace_text.specs.Text.{trace_text, order_text}
 

@@ -4,10 +4,12 @@ use Rattle.std.specs.Prelude.{◌==◌, ◌&&◌, nat_lt}
 use Rattle.std.specs.Option.{unwrap_or}
 use Rattle.std.specs.List.{onto_first}
 use Rattle.std.proofs.lemmas.Bool.{cond-false}
-use Rattle.trace_text.specs.declared.fault.LineFault.{LineFault}
-use Rattle.trace_text.specs.declared.fault.LineFault.TheVariants.{At, Memory}
-use Rattle.trace_text.specs.Reading.{IsFault, IsFaultIn}
-use Rattle.trace_text.specs.Fields.{Form, Place, lines_of_text, fields_of, first_fault, fault_from, wrong_in, wrong_at_end}
+use Rattle.trace_fields.specs.declared.fault.LineFault.{LineFault}
+use Rattle.trace_fields.specs.declared.fault.LineFault.TheVariants.{At, Memory}
+use Rattle.trace_text.specs.Reading.{IsFault}
+use Rattle.trace_fields.specs.Taking.{IsFaultIn}
+use Rattle.trace_text.specs.Forms.{Form, lines_of_text, first_fault, fault_from, wrong_in, wrong_at_end}
+use Rattle.trace_fields.specs.Fields.{Place, fields_of}
 
 some_line : {Known : Type 0} (form : Form Known) (known : Known) (line : ℕ) (first : List ℕ) (test : Bool) (b : ℕ) (lines : List (List ℕ))
     → fault_from form known line (first ∷ cond test ([] ∷ lines) (onto_first b lines))

@@ -5,11 +5,12 @@ use Rattle.std.proofs.lemmas.List.{append_cancel_right}
 use Rattle.std.proofs.lemmas.Option.{same_Some}
 use Rattle.trace_text.specs.Lines.{Line}
 use Rattle.trace_text.specs.Text.{line_body, line_text, trace_text}
-use Rattle.trace_text.specs.Fields.{lines_of_text, fields_of}
+use Rattle.trace_text.specs.Forms.{lines_of_text}
+use Rattle.trace_fields.specs.Fields.{fields_of}
 use Rattle.trace_text.specs.Orders.{number_in, most_harts}
-use Rattle.trace_text.specs.Readings.{all_of}
+use Rattle.trace_fields.specs.Readings.{all_of}
 use Rattle.trace_text.specs.Traces.{IsLine, IsTrace}
-use Rattle.trace_text.proofs.Agains.{all_again}
+use Rattle.trace_fields.proofs.Agains.{all_again}
 use Rattle.trace_text.proofs.LineTexts.{fields_again}
 use Rattle.trace_text.proofs.LinesTold.{line_told, told_again}
 use Rattle.trace_text.proofs.Sound.{header_line, harts_told, trace_cut, line_cut}

@@ -1,19 +1,17 @@
 -- A line that is read behind its key.
 use Rattle.std.proofs.Common.{◌≡◌, ℕ, ◌<◌, ◌≤◌, arith, length, slice_index, List, [], ◌∷◌, sym, ap, ◌∙◌, Some, Result, Ok, Err, subst, get_or}
 use Rattle.std.specs.Prelude.{MatchResult}
-use Rattle.trace_text.specs.declared.fields.Fields.{Fields}
-use Rattle.trace_text.specs.declared.fault.LineFault.{LineFault}
+use Rattle.trace_fields.specs.declared.fields.Fields.{Fields}
+use Rattle.trace_fields.specs.declared.fault.LineFault.{LineFault}
 use Rattle.trace_text.specs.declared.line.Line as code
-use Rattle.trace_text.specs.Fields.{Test}
-use Rattle.trace_text.specs.Orders.{is_word}
-use Rattle.trace_text.specs.Numbers.{decimal_below}
+use Rattle.trace_fields.specs.Fields.{Test, is_word, tells}
+use Rattle.trace_fields.specs.Numbers.{decimal_below}
 use Rattle.trace_text.specs.Text.{line_fields}
-use Rattle.trace_text.specs.Traces.{tells, tests_for, trace_tests, line_forms, IsLine}
-use Rattle.trace_text.specs.Taking.{left, Took}
-use Rattle.trace_text.specs.LineReading.{ReadsLine, IsWrongBy}
-use Rattle.trace_text.specs.Reading.{IsFaultIn}
+use Rattle.trace_text.specs.Traces.{tests_for, trace_tests, line_forms, IsLine}
+use Rattle.trace_fields.specs.Taking.{left, Took, IsWrongBy, IsFaultIn}
+use Rattle.trace_text.specs.LineReading.{ReadsLine}
 use Rattle.trace_text.specs.Views.{line_seen}
-use Rattle.trace_text.proofs.Taken.{passed, from_start, word_passes}
+use Rattle.trace_fields.proofs.Taken.{passed, from_start, word_passes}
 
 -- the fields of a line are at the start of it
 abbrev pub Starts : Fields → ℕ → List (List ℕ) → Type 0

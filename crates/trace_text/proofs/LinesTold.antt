@@ -5,12 +5,13 @@ use Rattle.std.specs.Fmt.{decimal}
 use Rattle.rv_fields.specs.Attempt.{◌>>=◌}
 use Rattle.rv_fields.specs.Effect.{Effect}
 use Rattle.trace_text.specs.Lines.{Line, request, picked, weighed, fixed, given, settled, touched, made, found, ending, done, refused}
-use Rattle.trace_text.specs.Text.{hex, word_text, or_none, write_text, access_text, trail_text, trap_text, line_fields}
-use Rattle.trace_text.specs.Numbers.{decimal_below, word_of}
-use Rattle.trace_text.specs.Readings.{kind_of, cause_of, preambles, name_of, count_of, number_of, hex_of, register_of, space_of, path_of, bytes_of, optional, write_of, access_of, trap_of, trail_of}
+use Rattle.trace_fields.specs.Text.{hex, word_text, or_none, write_text, access_text, trail_text, trap_text}
+use Rattle.trace_text.specs.Text.{line_fields}
+use Rattle.trace_fields.specs.Numbers.{decimal_below, word_of}
+use Rattle.trace_fields.specs.Readings.{kind_of, cause_of, preambles, name_of, count_of, number_of, hex_of, register_of, space_of, path_of, bytes_of, optional, write_of, access_of, trap_of, trail_of}
 use Rattle.trace_text.specs.Traces.{IsStep, IsLine}
-use Rattle.trace_text.proofs.Agains.{there_again}
-use Rattle.trace_text.proofs.Spellings.{hart_spells, count_spells, hex_spells, space_spells, register_spells, word_spells, preamble_spells, kind_spells, cause_spells, name_spells, path_spells, bytes_spells, trail_spells, optional_write_spells, optional_access_spells, optional_trap_spells}
+use Rattle.trace_fields.proofs.Agains.{there_again}
+use Rattle.trace_fields.proofs.Spellings.{hart_spells, count_spells, hex_spells, space_spells, register_spells, word_spells, preamble_spells, kind_spells, cause_spells, name_spells, path_spells, bytes_spells, trail_spells, optional_write_spells, optional_access_spells, optional_trap_spells}
 
 -- What the fields behind the hart tell, for each kind of line.
 

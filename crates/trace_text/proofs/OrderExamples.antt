@@ -2,7 +2,7 @@
 use Rattle.std.proofs.Common.{◌≡◌, ℕ, [], ◌∷◌, refl, Option, Some, None}
 use Rattle.std.specs.Prelude.{codes, replicate}
 use Rattle.std.specs.Fmt.{digits}
-use Rattle.trace_text.specs.Fields.{Place}
+use Rattle.trace_fields.specs.Fields.{Place}
 use Rattle.trace_text.specs.Orders.{order_fault, order_told, harts_told}
 
 abbrev at : ℕ → ℕ → Option Place

@@ -8,14 +8,17 @@ use Rattle.std.specs.Str.Parse.{digits_value}
 use Rattle.std.proofs.lemmas.Bool.{ne_eqb, eq-eqb, lt-ltb, le-ltb, cases_eq, not_from_false, false≢true}
 use Rattle.std.proofs.lemmas.Fmt.{decimal_is_IsNumeral}
 use Rattle.std.proofs.lemmas.List.{length-append, length-replicate}
-use Rattle.trace_text.specs.Text.{Turns, with_turn, turns_of, turns_fields, turns_text, joined_by, space_byte}
-use Rattle.trace_text.specs.Numbers.{decimal_below}
-use Rattle.trace_text.specs.Fields.{lines_of_text, fields_of, fault_from, wrong_in, wrong_at_end, first_fault}
-use Rattle.trace_text.specs.Orders.{order_form, turns, steps_of, number_in, is_another_hart, is_decimal, most_steps}
-use Rattle.trace_text.proofs.Numerals.{again}
+use Rattle.trace_text.specs.Text.{Turns, with_turn, turns_of, turns_fields, turns_text}
+use Rattle.trace_fields.specs.Text.{joined_by, space_byte}
+use Rattle.trace_fields.specs.Numbers.{decimal_below}
+use Rattle.trace_text.specs.Forms.{lines_of_text, fault_from, wrong_in, wrong_at_end, first_fault}
+use Rattle.trace_fields.specs.Fields.{fields_of, is_another_hart, is_decimal}
+use Rattle.trace_text.specs.Orders.{order_form, turns, steps_of, number_in, most_steps}
+use Rattle.trace_fields.proofs.Numerals.{again}
 use Rattle.trace_text.proofs.Faults.{step}
-use Rattle.trace_text.proofs.WordBytes.{IsVisible}
-use Rattle.trace_text.proofs.VisibleLines.{decimal_visible, cut_fields, no_newline, cut_line}
+use Rattle.trace_fields.proofs.WordBytes.{IsVisible}
+use Rattle.trace_fields.proofs.Visible.{decimal_visible}
+use Rattle.trace_text.proofs.VisibleLines.{cut_fields, no_newline, cut_line}
 
 pub value_of_decimal : (n : ℕ) → n < 2 ^ 64 → digits_value 10 (decimal n) ≡ n
 value_of_decimal n small = (decimal_is_IsNumeral n small).1

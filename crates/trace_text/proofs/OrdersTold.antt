@@ -2,17 +2,17 @@
 use Rattle.std.proofs.Common.{◌≡◌, ℕ, ◌+◌, ◌≤◌, List, [], ◌∷◌, ◌++◌, length, replicate, refl, sym, ap, ◌∙◌, arith, None, get_or, drop, Result, Ok, Err}
 use Rattle.std.specs.Prelude.{MatchResult, codes}
 use Rattle.std.proofs.lemmas.Option.{none-some}
-use Rattle.trace_text.specs.declared.fault.LineFault.{LineFault}
-use Rattle.trace_text.specs.declared.fault.LineFault.TheVariants.{At, Memory}
+use Rattle.trace_fields.specs.declared.fault.LineFault.{LineFault}
+use Rattle.trace_fields.specs.declared.fault.LineFault.TheVariants.{At, Memory}
 use Rattle.trace_text.specs.Reading.{IsFault}
 use Rattle.std.specs.List.{flat_map}
 use Rattle.std.proofs.lemmas.List.{length-append, length-replicate}
-use Rattle.trace_text.specs.Fields.{lines_of_text, fields_of, fault_from}
+use Rattle.trace_text.specs.Forms.{lines_of_text, fault_from, first_fault}
+use Rattle.trace_fields.specs.Fields.{fields_of}
 use Rattle.trace_text.specs.Orders.{IsOrder, order_form, nothing, turns, steps_of, order_fault, order_told, harts_told, number_in}
 use Rattle.trace_text.specs.Text.{order_text, turns_of, turns_text}
-use Rattle.trace_text.specs.Fields.{first_fault}
 use Rattle.trace_text.proofs.Faults.{step}
-use Rattle.trace_text.proofs.WordBytes.{IsVisible}
+use Rattle.trace_fields.proofs.WordBytes.{IsVisible}
 use Rattle.trace_text.proofs.VisibleLines.{header_body, header_number, header_right, header_cut}
 use Rattle.trace_text.proofs.OrderTexts.{turns_are, no_fault, told_steps, steps_of_turns}
 

@@ -3,12 +3,12 @@ use Rattle.std.proofs.Common.{◌≡◌, ℕ, List, [], ◌∷◌, ◌++◌, ref
 use Rattle.std.specs.Prelude.{codes}
 use Rattle.std.specs.Char.{encode_utf8}
 use Rattle.std.specs.Fmt.{digits}
-use Rattle.trace_text.specs.Fields.{Place}
+use Rattle.trace_fields.specs.Fields.{Place}
 use Rattle.rv_fields.specs.Effect.{Effect}
 use Rattle.rv_fields.specs.declared.access.AccessKind.TheVariants.{Load}
 use Rattle.rv_fields.specs.declared.mode.Mode.TheVariants.{M}
-use Rattle.trace_text.specs.declared.line.Kind.TheVariants.{Mem}
-use Rattle.trace_text.specs.declared.line.Cause.TheVariants.{NoPlace}
+use Rattle.trace_fields.specs.declared.request.Kind.TheVariants.{Mem}
+use Rattle.trace_fields.specs.declared.request.Cause.TheVariants.{NoPlace}
 use Rattle.trace_text.specs.Lines.{request, picked, weighed, given, settled, touched, made, ending, refused}
 use Rattle.trace_text.specs.Text.{line_text}
 use Rattle.trace_text.specs.Traces.{trace_fault}

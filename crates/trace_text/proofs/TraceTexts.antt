@@ -6,12 +6,14 @@ use Rattle.std.specs.List.{join_with_byte, onto_first}
 use Rattle.std.proofs.lemmas.Bool.{ne_eqb}
 use Rattle.std.proofs.lemmas.List.Splits.{join_with_byte-slice_split}
 use Rattle.std.proofs.lemmas.Option.{none-some}
-use Rattle.trace_text.specs.declared.fault.LineFault.{LineFault}
-use Rattle.trace_text.specs.declared.fault.LineFault.TheVariants.{At, Memory}
+use Rattle.trace_fields.specs.declared.fault.LineFault.{LineFault}
+use Rattle.trace_fields.specs.declared.fault.LineFault.TheVariants.{At, Memory}
 use Rattle.trace_text.specs.declared.line.Line as code
-use Rattle.trace_text.specs.Fields.{fields_of, lines_of_text, wrong_in}
+use Rattle.trace_fields.specs.Fields.{fields_of}
+use Rattle.trace_text.specs.Forms.{lines_of_text, wrong_in}
 use Rattle.trace_text.specs.Lines.{Line}
-use Rattle.trace_text.specs.Reading.{IsFault, IsFaultIn}
+use Rattle.trace_text.specs.Reading.{IsFault}
+use Rattle.trace_fields.specs.Taking.{IsFaultIn}
 use Rattle.trace_text.specs.Text.{line_fields, trace_text}
 use Rattle.trace_text.specs.Traces.{IsLine, IsTrace, trace_form, trace_tests, trace_fault}
 use Rattle.trace_text.specs.Views.{line_seen, lines_seen}

@@ -5,7 +5,8 @@ use Rattle.std.specs.Fmt.{decimal}
 use Rattle.std.specs.List.{flat_map}
 use Rattle.std.proofs.lemmas.Grind.{flat_map-append}
 use Rattle.std.proofs.lemmas.List.Elements.{All-append, All-replicate}
-use Rattle.trace_text.specs.Fields.{fields_of, lines_of_text}
+use Rattle.trace_fields.specs.Fields.{fields_of}
+use Rattle.trace_text.specs.Forms.{lines_of_text}
 use Rattle.trace_text.specs.Text.{Turns, turns_of, turns_fields, turns_text}
 use Rattle.trace_text.proofs.Runs.{turns, run, ends_before}
 use Rattle.trace_text.proofs.Unread.{ended_text}

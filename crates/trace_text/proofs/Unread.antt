@@ -3,14 +3,16 @@ use Rattle.std.proofs.Common.{◌≡◌, ℕ, ◌+◌, ◌<◌, ◌≤◌, List,
 use Rattle.std.specs.Prelude.{codes}
 use Rattle.std.specs.List.{flat_map, AllByRecursion}
 use Rattle.std.proofs.lemmas.Grind.{flat_map-append}
-use Rattle.trace_text.specs.Fields.{fields_of, lines_of_text, fault_from, wrong_in}
+use Rattle.trace_fields.specs.Fields.{fields_of}
+use Rattle.trace_text.specs.Forms.{lines_of_text, fault_from, wrong_in}
 use Rattle.trace_text.specs.Lines.{Line}
 use Rattle.trace_text.specs.Orders.{number_in}
 use Rattle.trace_text.specs.Reading.{Unread, Begins, HasRead}
-use Rattle.trace_text.specs.Text.{header_fields, header_text, line_body, line_fields, line_text, joined_by, newline, space_byte, trace_text}
+use Rattle.trace_text.specs.Text.{header_fields, header_text, line_body, line_fields, line_text, newline, trace_text}
+use Rattle.trace_fields.specs.Text.{joined_by, space_byte}
 use Rattle.trace_text.specs.Traces.{IsLine, IsTrace, trace_fault, trace_form}
 use Rattle.trace_text.proofs.Faults.{goes_on}
-use Rattle.trace_text.proofs.Joins.{all_append}
+use Rattle.trace_fields.proofs.Joins.{all_append}
 use Rattle.trace_text.proofs.TraceTexts.{cut_text, fields_text, right_line}
 
 -- nothing is read

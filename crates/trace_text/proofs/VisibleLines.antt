@@ -7,18 +7,18 @@ use Rattle.std.specs.Fmt.{decimal}
 use Rattle.std.proofs.lemmas.Bool.{le-ltb, not_from_false}
 use Rattle.std.proofs.lemmas.List.Elements.{All-from_recursion}
 use Rattle.std.proofs.lemmas.List.Splits.{slice_split_at}
-use Rattle.trace_text.specs.Text.{space_byte, newline, joined_by, header_fields, header_text}
-use Rattle.trace_text.specs.Numbers.{decimal_below}
-use Rattle.trace_text.specs.Fields.{lines_of_text, fields_of, first_wrong}
-use Rattle.trace_text.specs.Orders.{is_decimal, header_tests, number_in, most_harts}
-use Rattle.trace_text.proofs.Joins.{Lacks, lacks, all_weaken, joined_all, parts_again}
-use Rattle.trace_text.proofs.WordBytes.{IsVisible, word_visible, decimal_word}
-use Rattle.trace_text.proofs.Backs.{value_told}
-use Rattle.trace_text.proofs.Agains.{hart_again}
-use Rattle.trace_text.proofs.Taken.{word_passes}
-
-pub decimal_visible : (n : ℕ) → n < 2 ^ 64 → IsVisible (decimal n)
-decimal_visible n small = word_visible (decimal n) (decimal_word n small)
+use Rattle.trace_fields.specs.Text.{space_byte, joined_by}
+use Rattle.trace_text.specs.Text.{newline, header_fields, header_text}
+use Rattle.trace_fields.specs.Numbers.{decimal_below}
+use Rattle.trace_text.specs.Forms.{lines_of_text}
+use Rattle.trace_fields.specs.Fields.{fields_of, first_wrong, is_decimal}
+use Rattle.trace_text.specs.Orders.{header_tests, number_in, most_harts}
+use Rattle.trace_fields.proofs.Joins.{Lacks, lacks, all_weaken, joined_all, parts_again}
+use Rattle.trace_fields.proofs.WordBytes.{IsVisible}
+use Rattle.trace_fields.proofs.Backs.{value_told}
+use Rattle.trace_fields.proofs.Agains.{hart_again}
+use Rattle.trace_fields.proofs.Taken.{word_passes}
+use Rattle.trace_fields.proofs.Visible.{decimal_visible}
 
 pub visible_lacks : (byte : ℕ) → byte ≤ 0x20 → (text : List ℕ) → IsVisible text → Lacks byte text
 visible_lacks byte low text visible = lacks (λ b. 0x20 < b) byte (λ b above same. omega arith) text visible

@@ -1,16 +1,8 @@
-pub mod Bounds
-pub mod Trails
-pub mod Letters
-pub mod Parts
 pub mod Lines
 pub mod Views
 pub mod Text
-pub mod Numbers
-pub mod Fields
+pub mod Forms
 pub mod Orders
 pub mod Reading
-pub mod Readings
 pub mod Traces
-pub mod Taking
 pub mod LineReading
-pub mod Messages

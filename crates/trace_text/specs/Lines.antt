@@ -3,9 +3,9 @@ use Rattle.std.specs.Prelude.{ℕ, List, [], ◌∷◌, filter, ◌==◌, ◌&&�
 use Rattle.std.specs.List.{filter_map}
 use Rattle.std.specs.Option.{option_or}
 use Rattle.rv_fields.specs.Effect.{Effect, Entry}
-pub use Rattle.rv_fields.specs.Name.{Name}
-use Rattle.trace_text.specs.declared.line.Kind.{Kind}
-use Rattle.trace_text.specs.declared.line.Cause.{Cause}
+use Rattle.rv_fields.specs.Name.{Name}
+use Rattle.trace_fields.specs.declared.request.Kind.{Kind}
+use Rattle.trace_fields.specs.declared.request.Cause.{Cause}
 
 -- Each line is of a hart, which comes first.
 pub data Line : Type 0 where

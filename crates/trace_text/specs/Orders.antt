@@ -1,11 +1,9 @@
 -- The form of an order, and the order that a text in this form tells.
-use Rattle.std.specs.Prelude.{ℕ, ◌+◌, ◌-◌, ◌<◌, ◌≤◌, true, false, not, ◌==◌, nat_lt, List, [], ◌∷◌, length, drop, replicate, codes, Option, Some, None, All, get_or}
-use Rattle.std.specs.Option.{option_map_or}
+use Rattle.std.specs.Prelude.{ℕ, ◌+◌, ◌-◌, ◌<◌, ◌≤◌, List, [], ◌∷◌, length, drop, replicate, codes, Option, Some, None, All, get_or}
 use Rattle.std.specs.List.{flat_map}
-use Rattle.std.specs.Str.{bytes_eq}
 use Rattle.std.specs.Str.Parse.{digits_value}
-use Rattle.trace_text.specs.Numbers.{decimal_below}
-use Rattle.trace_text.specs.Fields.{Test, Form, Place, fault_of, lines_of_text, fields_of}
+use Rattle.trace_fields.specs.Fields.{Test, Place, fields_of, is_word, is_decimal, is_another_hart}
+use Rattle.trace_text.specs.Forms.{Form, fault_of, lines_of_text}
 
 -- so many harts at most
 abbrev pub most_harts : ℕ
@@ -28,22 +26,9 @@ pub data SoFar : Type 0 where
   -- the harts, the hart of the line before where there is one, and how many steps the lines have
   turns : ℕ → Option ℕ → ℕ → SoFar
 
--- the field is this word
-abbrev pub is_word : List ℕ → Test
-is_word word field = bytes_eq field word
-
--- the field is a decimal from low on and below the bound
-abbrev pub is_decimal : ℕ → ℕ → Test
-is_decimal low bound field = option_map_or (λ n. not (nat_lt n low)) (decimal_below bound field) false
-
 -- the first line names the file's kind, version 1 and the number of harts
 abbrev pub header_tests : List ℕ → List Test
 header_tests kind = is_word kind ∷ is_word (codes "1") ∷ is_decimal 1 (most_harts + 1) ∷ []
-
--- a hart below this number, and not the one of the line before
-abbrev pub is_another_hart : ℕ → Option ℕ → Test
-is_another_hart harts last field =
-    option_map_or (λ hart. option_map_or (λ before. not (before == hart)) last true) (decimal_below harts field) false
 
 abbrev pub order_tests : SoFar → List (List ℕ) → List Test
 order_tests nothing fields = header_tests (codes "order")

@@ -1,11 +1,12 @@
 -- What the readers of orders and traces may answer.
 use Rattle.std.specs.Prelude.{◌≡◌, ℕ, ◌+◌, ◌≤◌, List, [], ◌∷◌, ◌++◌, length, codes, Option, Some, None, MatchOption, MatchResult, Result}
 use Rattle.std.specs.List.{flat_map, AllByRecursion}
-use Rattle.trace_text.specs.declared.fault.LineFault.{LineFault}
-use Rattle.trace_text.specs.declared.fault.LineFault.TheVariants.{At, Memory}
+use Rattle.trace_fields.specs.declared.fault.LineFault.{LineFault}
+use Rattle.trace_fields.specs.declared.fault.LineFault.TheVariants.{At, Memory}
 use Rattle.trace_text.specs.declared.line.Line as code
 use Rattle.trace_text.specs.declared.trace_lines.TraceLines.{TraceLines}
-use Rattle.trace_text.specs.Fields.{Test, Place, first_wrong, fault_from, lines_of_text}
+use Rattle.trace_fields.specs.Fields.{Place}
+use Rattle.trace_text.specs.Forms.{fault_from, lines_of_text}
 use Rattle.trace_text.specs.Lines.{Line}
 use Rattle.trace_text.specs.Orders.{order_form, turns, most_harts}
 use Rattle.trace_text.specs.Text.{header_text, line_text}
@@ -16,11 +17,6 @@ use Rattle.trace_text.specs.Views.{line_seen}
 abbrev pub IsFault : Option Place → LineFault → Type 0
 IsFault fault (At l f) = fault ≡ Some (record { line = l; field = f })
 IsFault fault Memory = Unit {0}
-
--- the fault is in the fields of the line of this number, by the tests; or memory ran out
-abbrev pub IsFaultIn : List Test → ℕ → List (List ℕ) → LineFault → Type 0
-IsFaultIn tests line fields (At l f) = (l ≡ line) × (first_wrong 1 tests fields ≡ Some f)
-IsFaultIn tests line fields Memory = Unit {0}
 
 -- the fault of the lines behind the first, where the first tells so many harts
 abbrev pub turns_fault : ℕ → List ℕ → Option Place

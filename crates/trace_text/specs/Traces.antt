@@ -1,50 +1,18 @@
 -- The form of a trace, and the traces that it spells.
-use Rattle.std.specs.Prelude.{ℕ, ◌≢◌, ◌^◌, ◌<◌, ◌≤◌, false, List, [], ◌∷◌, length, codes, get_or, Option, Some, None, IsTrue, IfSome, MatchOption, if◌then◌else◌}
-use Rattle.std.specs.Option.{is_some}
+use Rattle.std.specs.Prelude.{ℕ, ◌^◌, ◌<◌, ◌≤◌, false, List, [], ◌∷◌, length, codes, get_or, Option, Some, None, IfSome, MatchOption, if◌then◌else◌}
 use Rattle.std.specs.List.{AllByRecursion}
 use Rattle.std.specs.Str.{bytes_eq}
-use Rattle.rv_fields.specs.Name.{is_name}
-use Rattle.rv_fields.specs.declared.mode.Mode.TheVariants.{U}
-use Rattle.rv_fields.specs.declared.access.Accessed.{Accessed}
-use Rattle.rv_fields.specs.declared.trap.Trap.{Trap}
-use Rattle.rv_fields.specs.Effect.{Effect, Entry}
-use Rattle.trace_text.specs.Bounds.{count_bound, hex_bound, register_bound, space_bound, trap_bound, most_labels, most_bytes, most_entries, sized_bound}
-use Rattle.trace_text.specs.Lines.{Name, Line, hart_of, request, picked, weighed, fixed, given, settled, touched, made, found, ending, done, refused}
-use Rattle.trace_text.specs.Numbers.{decimal_below, word_of}
-use Rattle.trace_text.specs.Fields.{Test, Form, Place, fault_of}
-use Rattle.trace_text.specs.Orders.{is_word, header_tests, number_in, most_harts}
-use Rattle.trace_text.specs.Readings.{is_any_of, sizes, preambles, kind_of, cause_of, name_of, count_of, hex_of, register_of, space_of, number_of, path_of, bytes_of, optional, write_of, access_of, trail_of, trap_of}
+use Rattle.rv_fields.specs.Effect.{Effect}
+use Rattle.trace_fields.specs.Bounds.{count_bound, hex_bound, register_bound, space_bound, most_entries}
+use Rattle.trace_text.specs.Lines.{Line, hart_of, request, picked, weighed, fixed, given, settled, touched, made, found, ending, done, refused}
+use Rattle.trace_fields.specs.Numbers.{decimal_below, word_of}
+use Rattle.trace_fields.specs.Fields.{Test, Place, is_word, tells}
+use Rattle.trace_text.specs.Forms.{Form, fault_of}
+use Rattle.trace_text.specs.Orders.{header_tests, number_in, most_harts}
+use Rattle.trace_fields.specs.Readings.{preambles, kind_of, cause_of, name_of, count_of, hex_of, register_of, space_of, number_of, path_of, bytes_of, optional, write_of, access_of, trail_of, trap_of}
+use Rattle.trace_fields.specs.Ranges.{IsAnyOf, IsName, IsWrite, IsAccess, IsEntry, IsTrap, IsPath, AreBytes}
 
 -- The ranges that a trace keeps.
-
-abbrev pub IsAnyOf : List ℕ → ℕ → Type 0
-IsAnyOf numbers n = IsTrue (is_any_of numbers n)
-
-abbrev pub IsName : Name → Type 0
-IsName name = IsTrue (is_name name)
-
--- a register that is written, and its new value
-pub record IsWrite (w : ℕ × ℕ) : Type 0 where
-  pub some : 1 ≤ w.0
-  pub register : w.0 < register_bound
-  pub value : w.1 < hex_bound
-
-pub record IsAccess (a : Accessed) : Type 0 where
-  pub va : a.va < hex_bound
-  pub pa : a.pa < hex_bound
-  pub size : IsAnyOf sizes a.size
-  pub read : IfSome a.read (λ n. n < sized_bound a.size)
-  pub wrote : IfSome a.wrote (λ n. n < sized_bound a.size)
-
-pub record IsEntry (e : Entry) : Type 0 where
-  pub at : e.at < hex_bound
-  pub pte : e.pte < hex_bound
-
-pub record IsTrap (t : Trap) : Type 0 where
-  pub cause : t.cause < trap_bound
-  pub epc : t.epc < hex_bound
-  pub tval : t.tval < hex_bound
-  pub to : t.to ≢ U
 
 -- a step line has a physical address and a word
 pub record IsStep (e : Effect) : Type 0 where
@@ -56,16 +24,6 @@ pub record IsStep (e : Effect) : Type 0 where
   pub short : length e.trail ≤ most_entries
   pub trail : AllByRecursion IsEntry e.trail
   pub trap : IfSome e.trap IsTrap
-
-pub record IsPath (path : List Name) : Type 0 where
-  pub some : 1 ≤ length path
-  pub short : length path ≤ most_labels
-  pub named : AllByRecursion IsName path
-
-pub record AreBytes (bytes : List ℕ) : Type 0 where
-  pub some : 1 ≤ length bytes
-  pub short : length bytes ≤ most_bytes
-  pub small : AllByRecursion (λ b. b < 2 ^ 8) bytes
 
 -- what a line tells is in its ranges
 abbrev pub KeepsRanges : Line → Type 0
@@ -94,10 +52,6 @@ pub record IsTrace (harts : ℕ) (lines : List Line) : Type 0 where
   pub are_lines : AllByRecursion (IsLine harts) lines
 
 -- The tests of the fields.
-
--- the field tells something by this reading
-abbrev pub tells : {A : Type 0} → (List ℕ → Option A) → Test
-tells reading field = is_some (reading field)
 
 abbrev pub step_tests : List Test
 step_tests = tells hex_of ∷ tells hex_of ∷ tells word_of ∷ tells (optional write_of) ∷ tells (optional access_of) ∷ tells trail_of ∷ tells (optional trap_of) ∷ []

@@ -1,17 +1,17 @@
 //! The lines of a trace, each read behind the field that tells its form.
 ghost use Rattle.std.specs.Prelude.{◌≡◌, ◌<◌, [], ◌∷◌, codes, MatchResult};
 ghost use Rattle.trace_text.specs.Text.{step_fields};
-ghost use Rattle.trace_text.specs.Readings.{hex_of, count_of, kind_of, cause_of, number_of, preambles, name_of, register_of, space_of, path_of, bytes_of};
-ghost use Rattle.trace_text.specs.Numbers.{decimal_below};
-ghost use Rattle.trace_text.specs.Traces.{tells, step_tests, IsStep};
+ghost use Rattle.trace_fields.specs.Readings.{hex_of, count_of, kind_of, cause_of, number_of, preambles, name_of, register_of, space_of, path_of, bytes_of};
+ghost use Rattle.trace_fields.specs.Numbers.{decimal_below};
+ghost use Rattle.trace_fields.specs.Fields.{tells};
+ghost use Rattle.trace_text.specs.Traces.{step_tests, IsStep};
 ghost use Rattle.trace_text.specs.Views.{effect_seen};
-ghost use Rattle.trace_text.specs.Taking.{left};
-ghost use Rattle.trace_text.specs.LineReading.{IsWrongBy, ReadsLine};
+ghost use Rattle.trace_fields.specs.Taking.{left, IsWrongBy};
+ghost use Rattle.trace_text.specs.LineReading.{ReadsLine};
 
-use crate::fault::LineFault;
-use crate::fields::Fields;
 use crate::line::{Line, StepLine};
 use std::alloc::Global;
+use trace_fields::{Fields, LineFault};
 
 /// A request begins.
 pub(crate) fn request(fields: &mut Fields, harts: u8) -> Result<Line, LineFault>

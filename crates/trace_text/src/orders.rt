@@ -2,16 +2,15 @@ ghost use Rattle.std.specs.Prelude.{◌≡◌, ◌≢◌, ℕ, ◌<◌, ◌≤�
 ghost use Rattle.std.specs.List.{flat_map};
 ghost use Rattle.std.specs.Fmt.{decimal};
 ghost use Rattle.trace_text.specs.Text.{order_text, turns_of, turns_text};
-ghost use Rattle.trace_text.specs.Fields.{fields_of, first_wrong};
-ghost use Rattle.trace_text.specs.Orders.{IsOrder, turns, nothing, order_form, order_fault, order_tests, number_in, most_steps};
-ghost use Rattle.trace_text.specs.Reading.{IsFault, IsFaultIn, turns_fault};
+ghost use Rattle.trace_fields.specs.Fields.{fields_of, first_wrong};
+ghost use Rattle.trace_text.specs.Orders.{IsOrder, turns, order_fault, order_tests, number_in, most_steps};
+ghost use Rattle.trace_text.specs.Reading.{IsFault, turns_fault};
+ghost use Rattle.trace_fields.specs.Taking.{IsFaultIn};
 
-use crate::fault::LineFault;
-use crate::fields::Fields;
-use crate::parts::cut;
 use crate::reading::{HEADER_FIELDS, at_end, header};
 use crate::turns::Turns;
 use std::alloc::{AllocError, Global};
+use trace_fields::{Fields, LineFault, cut};
 
 #[cfg(test)]
 mod tests;

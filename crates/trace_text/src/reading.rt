@@ -1,13 +1,12 @@
 //! The first line of a file, and what readers of lines share.
 ghost use Rattle.std.specs.Prelude.{◌≡◌, ◌≤◌, ◌+◌, None, MatchResult};
 ghost use Rattle.std.specs.Option.{unwrap_or};
-ghost use Rattle.trace_text.specs.Fields.{fields_of, first_wrong};
+ghost use Rattle.trace_fields.specs.Fields.{fields_of, first_wrong};
 ghost use Rattle.trace_text.specs.Text.{header_fields};
 ghost use Rattle.trace_text.specs.Orders.{header_tests, number_in};
-ghost use Rattle.trace_text.specs.Reading.{IsFaultIn};
+ghost use Rattle.trace_fields.specs.Taking.{IsFaultIn};
 
-use crate::fault::LineFault;
-use crate::fields::Fields;
+use trace_fields::{Fields, LineFault};
 
 /// No more harts than this.
 const MOST_HARTS: usize = 16;

@@ -1,19 +1,19 @@
-ghost use Rattle.std.specs.Prelude.{◌≡◌, ℕ, ◌<◌, ◌≤◌, ◌+◌, ◌++◌, ◌∷◌, [], length, List, Some, None, IfOk, IfErr, MatchResult};
+ghost use Rattle.std.specs.Prelude.{◌≡◌, ℕ, ◌<◌, ◌≤◌, ◌+◌, ◌∷◌, [], length, List, Some, None, IfOk, IfErr, MatchResult};
 ghost use Rattle.trace_text.specs.Text.{trace_text, line_fields};
-ghost use Rattle.trace_text.specs.Fields.{fields_of, first_wrong, lines_of_text};
+ghost use Rattle.trace_fields.specs.Fields.{fields_of};
+ghost use Rattle.trace_text.specs.Forms.{lines_of_text};
 ghost use Rattle.trace_text.specs.Lines as model;
 ghost use Rattle.trace_text.specs.Traces.{IsTrace, IsLine, trace_fault, trace_tests};
-ghost use Rattle.trace_text.specs.Reading.{IsFault, IsFaultIn};
+ghost use Rattle.trace_text.specs.Reading.{IsFault};
+ghost use Rattle.trace_fields.specs.Taking.{IsFaultIn};
 ghost use Rattle.trace_text.specs.Views.{line_seen, lines_seen};
 
-use crate::fault::LineFault;
-use crate::fields::Fields;
 use crate::line::Line;
 use crate::lines;
-use crate::parts::cut;
 use crate::reading::{HEADER_FIELDS, at_end, header};
 use crate::trace_lines::TraceLines;
 use std::alloc::Global;
+use trace_fields::{Fields, LineFault, cut};
 
 #[cfg(test)]
 mod tests;

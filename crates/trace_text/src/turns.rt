@@ -1,6 +1,6 @@
 ghost use Rattle.std.specs.Prelude.{[], ◌∷◌, Some};
 ghost use Rattle.std.specs.Fmt.{decimal};
-ghost use Rattle.trace_text.specs.Text.{joined_by, space_byte};
+ghost use Rattle.trace_fields.specs.Text.{joined_by, space_byte};
 
 use std::fmt;
 

@@ -1,5 +1,5 @@
 ghost use Rattle.std.specs.Prelude.{◌≡◌, ◌++◌, length, take, Some, OnOk, OnErr};
-ghost use Rattle.std.specs.Fmt.{AppendsText, decimal, with_newline};
+ghost use Rattle.std.specs.Fmt.{AppendsText, with_newline};
 ghost use Rattle.trace_text.specs.Views.{lines_seen};
 ghost use Rattle.trace_text.specs.Text.{trace_text, order_text};
 

@@ -7,7 +7,7 @@ use Rattle.std.proofs.Math.Nat.{pow-succ', div-div-eq-div-mul}
 use Rattle.std.proofs.lemmas.Bool.{and_parts}
 use Rattle.rv_fields.specs.Hart.{updated}
 use Rattle.rv_fields.specs.Memory.{number_of}
-use Rattle.trace_text.proofs.Joins.{all_weaken}
+use Rattle.trace_fields.proofs.Joins.{all_weaken}
 use Rattle.world_face.specs.Shards.{joined, present, span_of, spans, with_run, with_runs}
 use Rattle.world_face.specs.Told.{Run}
 

@@ -9,7 +9,7 @@ use Rattle.rv_fields.specs.declared.access.AccessKind.TheVariants.{Amo, Load, Lr
 use Rattle.rv_fields.specs.declared.access.AccessKind.{AccessKind}
 use Rattle.rv_fields.specs.declared.access.Accessed.{Accessed}
 use Rattle.boot_words.specs.Layout.{data_start, shard_of}
-use Rattle.trace_text.proofs.Joins.{all_weaken}
+use Rattle.trace_fields.proofs.Joins.{all_weaken}
 use Rattle.world_face.specs.Shards.{ShardState, after_told, present, reads, span_of, spans, untouched_in, with_runs}
 use Rattle.world_face.specs.Told.{Run}
 use Rattle.world_face.proofs.Bytes.{EachSpan, Lies, RunsStand, Untouched, each_span, each_untouched, lies_runs, runs_moved, spelt}

@@ -1,6 +1,7 @@
 use super::*;
 use std::test::*;
-use trace_text::{Kind, Line};
+use trace_fields::Kind;
+use trace_text::Line;
 
 #[test]
 fn gets_its_lines_in_order(rt: HostRuntime) -> Result<(), Fail> {

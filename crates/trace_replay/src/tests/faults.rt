@@ -6,7 +6,7 @@ use elf_file::ElfFault;
 use std::alloc::Global;
 use std::process::Abort;
 use std::test::*;
-use trace_text::LineFault;
+use trace_fields::LineFault;
 
 /// An order that is wrong in its second line.
 const WRONG_ORDER: &str = "order 1 1\n0 01\n";

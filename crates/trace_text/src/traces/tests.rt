@@ -1,10 +1,9 @@
 use super::*;
-use crate::entry::EntryText;
-use crate::line::{AccessText, Cause, Kind, StepLine, TrapText};
-use crate::trail::TrailText;
+use crate::line::StepLine;
 use crate::writing::write_trace;
 use rv_fields::name_of;
 use std::test::Fail;
+use trace_fields::{AccessText, Cause, EntryText, Kind, TrailText, TrapText};
 
 /// The trace of the first example.
 const EXAMPLE: &str =

@@ -1,10 +1,9 @@
 use super::*;
-use crate::entry::EntryText;
-use crate::line::{AccessText, Cause, Kind, StepLine, TrapText};
-use crate::trail::TrailText;
-use rv_fields::{AccessKind, Accessed, Mode, Trap, name_of};
+use crate::line::StepLine;
+use rv_fields::name_of;
 use std::alloc::Global;
 use std::test::Fail;
+use trace_fields::{AccessText, Cause, EntryText, Kind, TrailText, TrapText};
 
 /// A step of hart 0 that writes no register, with no access, no trail and no trap.
 fn step(pc: u64, word: u32) -> StepLine {
@@ -278,45 +277,6 @@ fn writes_large_values_in_lower_case(rt: HostRuntime) -> Result<(), Fail> {
 }
 
 #[test]
-fn writes_each_kind(rt: HostRuntime) -> Result<(), Fail> {
-    let kinds = [
-        (Kind::Ins, "ins"),
-        (Kind::Mem, "mem"),
-        (Kind::Jump, "jump"),
-        (Kind::Csr, "csr"),
-        (Kind::Sys, "sys"),
-        (Kind::Value, "value"),
-        (Kind::Loop, "loop"),
-        (Kind::Pick, "pick"),
-        (Kind::Set, "set"),
-    ];
-    for (kind, name) in kinds {
-        let shown = format!(in rt.alloc(); "{kind}")?;
-        assert_eq!(rt; shown.as_str(), name);
-    }
-    Ok(())
-}
-
-#[test]
-fn writes_each_cause(rt: HostRuntime) -> Result<(), Fail> {
-    let causes = [
-        (Cause::EmptyChoice, "empty-choice"),
-        (Cause::BudgetSpent, "budget-spent"),
-        (Cause::NoRegister, "no-register"),
-        (Cause::NoAddress, "no-address"),
-        (Cause::NoTarget, "no-target"),
-        (Cause::WindowFull, "window-full"),
-        (Cause::NoFreePage, "no-free-page"),
-        (Cause::NoPlace, "no-place"),
-    ];
-    for (cause, name) in causes {
-        let shown = format!(in rt.alloc(); "{cause}")?;
-        assert_eq!(rt; shown.as_str(), name);
-    }
-    Ok(())
-}
-
-#[test]
 fn writes_an_order_of_one_run(rt: HostRuntime) -> Result<(), Fail> {
     let mut text = Vec::new(rt.alloc());
     write_order(1, &[0; 72], &mut text)?;
@@ -356,48 +316,5 @@ fn appends_to_what_is_there(rt: HostRuntime) -> Result<(), Fail> {
 fn shows_a_line_without_its_newline(rt: HostRuntime) -> Result<(), Fail> {
     let shown = format!(in rt.alloc(); "<{}>", Line::E(last_step()))?;
     assert_eq!(rt; shown.as_str(), "<e 0 84000004 84000004 0000006f - - - ->");
-    Ok(())
-}
-
-#[test]
-fn shows_an_access_of_each_kind(rt: HostRuntime) -> Result<(), Fail> {
-    let kinds = [
-        (AccessKind::Load, "l:1000:80001000:8:ff:-"),
-        (AccessKind::Store, "s:1000:80001000:8:ff:-"),
-        (AccessKind::Lr, "r:1000:80001000:8:ff:-"),
-        (AccessKind::Sc, "c:1000:80001000:8:ff:-"),
-        (AccessKind::Amo, "a:1000:80001000:8:ff:-"),
-    ];
-    for (kind, text) in kinds {
-        let access = AccessText::of(Accessed {
-            kind,
-            va: 0x1000,
-            pa: 0x8000_1000,
-            size: 8,
-            read: Some(0xff),
-            wrote: None,
-        });
-        let shown = format!(in rt.alloc(); "{access}")?;
-        assert_eq!(rt; shown.as_str(), text);
-    }
-    Ok(())
-}
-
-#[test]
-fn shows_a_trap_to_each_mode(rt: HostRuntime) -> Result<(), Fail> {
-    let trap = Trap {
-        cause: 13,
-        epc: 0x8400_0010,
-        tval: 0xdead,
-        to: Mode::S,
-    };
-    let shown = format!(in rt.alloc(); "{}", TrapText::of(trap))?;
-    assert_eq!(rt; shown.as_str(), "13:84000010:dead:S");
-    let to_machine = Trap {
-        to: Mode::M,
-        ..trap
-    };
-    let shown = format!(in rt.alloc(); "{}", TrapText::of(to_machine))?;
-    assert_eq!(rt; shown.as_str(), "13:84000010:dead:M");
     Ok(())
 }

@@ -1,8 +1,8 @@
 use Rattle.std.proofs.Common.{[], ◌∷◌}
-use Rattle.trace_text.specs.Numbers.{decimal_below}
-use Rattle.trace_text.specs.Readings.{hex_of, name_of}
-use Rattle.trace_text.specs.Traces.{tells}
-use Rattle.trace_text.proofs.Taken.{lacks_here, after, handed_on}
+use Rattle.trace_fields.specs.Numbers.{decimal_below}
+use Rattle.trace_fields.specs.Readings.{hex_of, name_of}
+use Rattle.trace_fields.specs.Fields.{tells}
+use Rattle.trace_fields.proofs.Taken.{lacks_here, after, handed_on}
 use Rattle.trace_text.proofs.lines.picked.Goals as goal
 
 pub returns-in_err-hart : goal.returns-in_err-hart

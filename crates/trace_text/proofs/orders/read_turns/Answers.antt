@@ -1,9 +1,11 @@
 use Rattle.std.proofs.Common.{◌≡◌, ◌+◌, ◌++◌, length, None, Some, arith, ◌∙◌, sym, ap, subst, replicate}
-use Rattle.trace_text.specs.Fields.{fields_of, lines_of_text, fault_from, wrong_in}
+use Rattle.trace_fields.specs.Fields.{fields_of}
+use Rattle.trace_text.specs.Forms.{lines_of_text, fault_from, wrong_in}
 use Rattle.trace_text.specs.Orders.{order_form, turns, number_in, order_tests}
-use Rattle.trace_text.specs.Reading.{turns_fault, IsFaultIn}
+use Rattle.trace_text.specs.Reading.{turns_fault}
+use Rattle.trace_fields.specs.Taking.{IsFaultIn}
 use Rattle.trace_text.proofs.Faults.{stops_here, goes_on}
-use Rattle.trace_text.proofs.Taken.{handed_on}
+use Rattle.trace_fields.proofs.Taken.{handed_on}
 use Rattle.trace_text.proofs.OrdersTold.{counted}
 use Rattle.trace_text.proofs.TurnsRead.{HasTurns, reads_turn}
 use Rattle.trace_text.proofs.orders.read_turns.Goals as goal

@@ -1,5 +1,5 @@
 use Rattle.std.proofs.Common.{◌≡◌, ◌+◌, ◌≤◌, ◌<◌, length}
-use Rattle.trace_text.specs.Fields.{fault_from, lines_of_text}
+use Rattle.trace_text.specs.Forms.{fault_from, lines_of_text}
 use Rattle.trace_text.specs.Orders.{order_form, turns}
 use Rattle.trace_text.specs.Reading.{turns_fault}
 use Rattle.trace_text.proofs.TurnsRead.{HasTurns}

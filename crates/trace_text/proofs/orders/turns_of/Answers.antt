@@ -1,7 +1,7 @@
 use Rattle.std.proofs.Common.{◌+◌, ◌-◌, [], ◌∷◌}
-use Rattle.trace_text.specs.Fields.{fields_of}
-use Rattle.trace_text.specs.Orders.{is_another_hart, is_decimal, order_tests, turns, most_steps}
-use Rattle.trace_text.proofs.Taken.{lacks_here, passed, from_start, handed_on}
+use Rattle.trace_fields.specs.Fields.{fields_of, is_another_hart, is_decimal}
+use Rattle.trace_text.specs.Orders.{order_tests, turns, most_steps}
+use Rattle.trace_fields.proofs.Taken.{lacks_here, passed, from_start, handed_on}
 use Rattle.trace_text.proofs.orders.turns_of.Goals as goal
 
 pub returns-in_err-hart : goal.returns-in_err-hart

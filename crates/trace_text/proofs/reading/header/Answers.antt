@@ -1,8 +1,8 @@
 use Rattle.std.proofs.Common.{[], ◌∷◌}
 use Rattle.std.specs.Prelude.{codes}
-use Rattle.trace_text.specs.Fields.{fields_of}
-use Rattle.trace_text.specs.Orders.{is_word, is_decimal, header_tests}
-use Rattle.trace_text.proofs.Taken.{lacks_here, passed, from_start, handed_on, word_passes}
+use Rattle.trace_fields.specs.Fields.{fields_of, is_word, is_decimal}
+use Rattle.trace_text.specs.Orders.{header_tests}
+use Rattle.trace_fields.proofs.Taken.{lacks_here, passed, from_start, handed_on, word_passes}
 use Rattle.trace_text.proofs.reading.header.Goals as goal
 
 pub returns-in_err-keyword : goal.returns-in_err-keyword

@@ -1,10 +1,10 @@
 use Rattle.std.proofs.Common.{[], ◌∷◌, refl, subst}
 use Rattle.std.specs.Prelude.{codes}
-use Rattle.trace_text.specs.Fields.{fields_of}
-use Rattle.trace_text.specs.Readings.{count_of, kind_of, cause_of, number_of, preambles}
-use Rattle.trace_text.specs.Taking.{Took}
-use Rattle.trace_text.specs.Traces.{tells, step_tests}
-use Rattle.trace_text.proofs.Taken.{handed_on}
+use Rattle.trace_fields.specs.Fields.{fields_of, tells}
+use Rattle.trace_fields.specs.Readings.{count_of, kind_of, cause_of, number_of, preambles}
+use Rattle.trace_fields.specs.Taking.{Took}
+use Rattle.trace_text.specs.Traces.{step_tests}
+use Rattle.trace_fields.proofs.Taken.{handed_on}
 use Rattle.trace_text.proofs.LinesRead.{read_behind, fault_behind, one_letter}
 use Rattle.trace_text.proofs.traces.read_line.Goals as goal
 

@@ -10,7 +10,7 @@ use Rattle.hart_task.specs.Acts.{fixing_lines}
 use Rattle.hart_task.specs.Task.{TaskSeen, fixed_task, late_one, task_seen}
 use Rattle.std.specs.List.{AllByRecursion}
 use Rattle.trace_text.specs.Traces.{KeepsRanges}
-use Rattle.trace_text.proofs.Joins.{all_append}
+use Rattle.trace_fields.proofs.Joins.{all_append}
 use Rattle.hart_task.proofs.Fixing.{at_most_one, both_fixed, less_room, lines_told}
 use Rattle.hart_task.proofs.task.HartTask.fix_sources.Goals as goal
 

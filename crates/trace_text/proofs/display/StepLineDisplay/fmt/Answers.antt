@@ -1,8 +1,8 @@
 use Rattle.std.proofs.Common.{◌≡◌, ℕ, List, rules, None, Some, Option, refl, append_assoc}
 use Rattle.std.specs.Option.{option_map_or}
 use Rattle.std.proofs.lemmas.Grind.{put_three}
-use Rattle.trace_text.specs.declared.display.Written.{Written}
-use Rattle.trace_text.specs.Text.{or_none, none_text, write_text, access_text, trap_text}
+use Rattle.trace_fields.specs.declared.display.Written.{Written}
+use Rattle.trace_fields.specs.Text.{or_none, none_text, write_text, access_text, trap_text}
 use Rattle.trace_text.proofs.display.StepLineDisplay.fmt.Goals as goal
 
 -- what `OrNone` shows of a thing that may be there

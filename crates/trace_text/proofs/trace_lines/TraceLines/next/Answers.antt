@@ -3,7 +3,7 @@ use Rattle.trace_text.specs.Reading.{unread, unread_fault}
 use Rattle.trace_text.specs.Traces.{trace_form}
 use Rattle.trace_text.specs.Views.{line_seen}
 use Rattle.trace_text.proofs.Faults.{stops_here}
-use Rattle.trace_text.proofs.Taken.{handed_on}
+use Rattle.trace_fields.proofs.Taken.{handed_on}
 use Rattle.trace_text.proofs.Unread.{reads_one}
 use Rattle.trace_text.proofs.trace_lines.TraceLines.next.Goals as goal
 

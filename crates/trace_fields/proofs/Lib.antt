@@ -1,0 +1,15 @@
+pub mod Cuts
+pub mod Spells
+pub mod Taken
+pub mod Bases
+pub mod Numerals
+pub mod Spelled
+pub mod NumberExamples
+pub mod Joins
+pub mod Backs
+pub mod Agains
+pub mod Spellings
+pub mod WordBytes
+pub mod Digits
+pub mod Joined
+pub mod Visible

@@ -1,0 +1,11 @@
+pub mod Bounds
+pub mod Trails
+pub mod Letters
+pub mod Parts
+pub mod Text
+pub mod Numbers
+pub mod Fields
+pub mod Readings
+pub mod Ranges
+pub mod Taking
+pub mod Messages

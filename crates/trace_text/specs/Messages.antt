@@ -1,9 +1,0 @@
--- What is printed of the faults of lines: numbers in decimal.
-use Rattle.std.specs.Prelude.{ℕ, List, ◌++◌, codes}
-use Rattle.std.specs.Fmt.{decimal}
-use Rattle.trace_text.specs.declared.fault.LineFault.{LineFault}
-use Rattle.trace_text.specs.declared.fault.LineFault.TheVariants.{At, Memory}
-
-abbrev pub message : LineFault → List ℕ
-message (At line field) = codes "line " ++ decimal line ++ codes " field " ++ decimal field
-message Memory = codes "out of memory"
