@@ -5,7 +5,7 @@ use Rattle.serde_json.specs.Events.{items_len}
 use Rattle.serde_json.specs.Find.{as_array, get_member}
 use Rattle.rv_fields.specs.Name.{Name}
 use Rattle.rv_fields.specs.Attempt.{◌>>=◌}
-use Rattle.choice_tree.specs.Json.{document, object_of, natural_at}
+use Rattle.json_keys.specs.Json.{document, object_of, natural_at}
 
 -- Nodes with their labels and weights, in order: a leaf and the nodes behind it, or a node with its kids and those behind it.
 pub data Nodes : Type 0 where

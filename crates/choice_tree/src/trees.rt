@@ -1,10 +1,9 @@
 ghost use Rattle.std.specs.Prelude.{◌≡◌, [], option_map};
 ghost use Rattle.serde_json.specs.View.{view};
 ghost use Rattle.choice_tree.specs.Forest.{forest_of, forest_in};
-ghost use Rattle.choice_tree.specs.Input.{Reads};
+ghost use Rattle.json_keys.specs.Input.{Reads};
 
-use crate::input::InputFault;
-use crate::values::{document, natural_at, object_of, value_at};
+use json_keys::{InputFault, document, natural_at, object_of, value_at};
 use serde_json::Value;
 use std::alloc::Global;
 
@@ -22,7 +21,7 @@ impl Trees {
     }
 }
 
-#[tactic(auto, using(crate::proofs::Reading::lengths))]
+#[tactic(auto, using(json_keys::proofs::Reading::lengths))]
 fn forest_of(value: &Value) -> Option<Trees>
     ensures { option_map (λ _. []) result ≡ forest_of (view value.now) }
 {

@@ -2,8 +2,8 @@ ghost use Rattle.std.specs.Prelude.{◌≡◌, Some};
 ghost use Rattle.forge.specs.declared.stop.Reason.TheVariants as reasons;
 ghost use Rattle.forge.specs.declared.stop.Stop.TheVariants.{Memory};
 
-use choice_tree::InputFault;
 use elf_file::ElfFault;
+use json_keys::InputFault;
 use rv_fields::NoMemory;
 use std::alloc::AllocFailed;
 use std::fmt;

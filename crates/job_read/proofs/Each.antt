@@ -4,9 +4,9 @@ use Rattle.std.proofs.lemmas.List.{at_drop_all, at_drop_more}
 use Rattle.serde_json.specs.declared.value.Value.{Value}
 use Rattle.serde_json.specs.Data.{Data, Items as Values, no_items as no_values, item}
 use Rattle.serde_json.specs.View.{view, items_view}
-use Rattle.choice_tree.specs.declared.input.InputFault.{InputFault}
-use Rattle.choice_tree.specs.declared.input.InputFault.TheVariants.{NotBuilt, Memory}
-use Rattle.choice_tree.specs.Input.{Reads}
+use Rattle.json_keys.specs.declared.input.InputFault.{InputFault}
+use Rattle.json_keys.specs.declared.input.InputFault.TheVariants.{NotBuilt, Memory}
+use Rattle.json_keys.specs.Input.{Reads}
 use Rattle.rv_fields.specs.Attempt.{◌>>=◌}
 use Rattle.region_plan.specs.declared.job.Job.{Job}
 use Rattle.region_plan.specs.declared.plan.HartPlan as code

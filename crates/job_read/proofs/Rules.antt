@@ -17,9 +17,9 @@ use Rattle.region_plan.specs.Request.{Items, Pins, Request, no_items, one}
 use Rattle.region_plan.specs.Rules.{IsMakeable, IsMakeableRequest, IsPlainHart, KeepsRules, most_harts, most_requests}
 use Rattle.region_plan.specs.Script.{script_of}
 use Rattle.region_plan.specs.Views.{work_of, work_with}
-use Rattle.choice_tree.specs.declared.input.InputFault.{InputFault}
-use Rattle.choice_tree.specs.Input.{Reads}
-use Rattle.choice_tree.specs.Json.{integer, object_of, natural_at, text_at}
+use Rattle.json_keys.specs.declared.input.InputFault.{InputFault}
+use Rattle.json_keys.specs.Input.{Reads}
+use Rattle.json_keys.specs.Json.{integer, object_of, natural_at, text_at}
 use Rattle.job_read.specs.Accepted.{given_by, pins_of, register, request_of, items_of, template_at, hart_of, harts_of, harts_at, job_of}
 
 -- two steps that found something: the first found what the second goes on with

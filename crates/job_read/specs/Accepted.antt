@@ -12,7 +12,7 @@ use Rattle.region_plan.specs.Plan.{HartPlan, Work, no_hart}
 use Rattle.region_plan.specs.Request.{Items, Pins, Request, a_plain, an_ins, named_ins, no_items, one}
 use Rattle.region_plan.specs.Rules.{most_harts, most_requests}
 use Rattle.region_plan.specs.Views.{work_with}
-use Rattle.choice_tree.specs.Json.{document, integer, natural, natural_at, object_of, text_at}
+use Rattle.json_keys.specs.Json.{document, integer, natural, natural_at, object_of, text_at}
 
 -- a register: a number below 32
 abbrev pub register : Data → Option ℕ

@@ -1,11 +1,11 @@
 ghost use Rattle.std.specs.Prelude.{◌≡◌, option_map};
 ghost use Rattle.serde_json.specs.View.{view, items_view};
-ghost use Rattle.choice_tree.specs.Input.{Reads};
+ghost use Rattle.json_keys.specs.Input.{Reads};
 ghost use Rattle.region_plan.specs.Views.{hart_seen, items_seen, work_of};
 ghost use Rattle.job_read.specs.Accepted.{template_at, hart_of, harts_of, harts_at};
 
 use crate::requests::items_of;
-use choice_tree::{InputFault, natural_at, object_of, text_at, value_at};
+use json_keys::{InputFault, natural_at, object_of, text_at, value_at};
 use region_plan::{HartPlan, Item, Job, Plan};
 use rv_fields::Mode;
 use serde_json::Value;
@@ -18,7 +18,7 @@ const MOST_HARTS: usize = 16;
 const MOST_REQUESTS: usize = 1000;
 
 /// The harts of a job.
-#[tactic(auto, using(choice_tree::proofs::Reading::lengths))]
+#[tactic(auto, using(json_keys::proofs::Reading::lengths))]
 pub(crate) fn harts_at(value: &Value) -> Option<&[Value]>
     ensures { option_map (λ vs. items_view vs.now) result ≡ harts_at (view value.now) }
 {
@@ -60,7 +60,7 @@ fn hart_of(alloc: Global, value: &Value) -> Result<(HartPlan, Vec<Item>), InputF
 }
 
 /// The template of a hart in mode M with one page of code.
-#[tactic(auto, using(choice_tree::proofs::Reading::lengths))]
+#[tactic(auto, using(json_keys::proofs::Reading::lengths))]
 fn template_at(hart: &Value) -> Option<&[Value]>
     ensures { option_map (λ vs. items_view vs.now) result ≡ template_at (view hart.now) }
 {

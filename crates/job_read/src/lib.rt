@@ -5,7 +5,7 @@ mod harts;
 mod reading;
 mod requests;
 
-pub use choice_tree::InputFault;
+pub use json_keys::InputFault;
 pub use reading::read_job;
 
 #[cfg(test)]

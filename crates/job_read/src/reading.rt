@@ -1,12 +1,12 @@
 ghost use Rattle.std.specs.Prelude.{◌≡◌, option_map, IfOk};
 ghost use Rattle.serde_json.specs.View.{view};
-ghost use Rattle.choice_tree.specs.Input.{Reads};
+ghost use Rattle.json_keys.specs.Input.{Reads};
 ghost use Rattle.region_plan.specs.Rules.{KeepsRules};
 ghost use Rattle.region_plan.specs.Views.{work_of};
 ghost use Rattle.job_read.specs.Accepted.{job_of, job_in};
 
 use crate::harts::{harts_at, harts_of};
-use choice_tree::{InputFault, document};
+use json_keys::{InputFault, document};
 use region_plan::Job;
 use serde_json::Value;
 use std::alloc::Global;

@@ -1,12 +1,12 @@
 ghost use Rattle.std.specs.Prelude.{◌≡◌, option_map};
 ghost use Rattle.serde_json.specs.Find.{get_member};
 ghost use Rattle.serde_json.specs.View.{view, items_view, members_view};
-ghost use Rattle.choice_tree.specs.Input.{Reads};
-ghost use Rattle.choice_tree.specs.Json.{integer};
+ghost use Rattle.json_keys.specs.Input.{Reads};
+ghost use Rattle.json_keys.specs.Json.{integer};
 ghost use Rattle.region_plan.specs.Views.{items_seen, pins_seen, request_seen};
 ghost use Rattle.job_read.specs.Accepted.{given_by, items_of, key_count, pins_of, register, request_for, request_of};
 
-use choice_tree::{InputFault, Members, text_at, value_at};
+use json_keys::{InputFault, Members, text_at, value_at};
 use region_plan::{InsChoice, Item, Pins, Request};
 use rv_fields::Ins;
 use rv_table::by_name;
@@ -26,7 +26,7 @@ pub(crate) fn items_of(alloc: Global, values: &[Value]) -> Result<Vec<Item>, Inp
 }
 
 /// The request of an item: an instruction with all of its operands.
-#[tactic(auto, using(choice_tree::proofs::Reading::lengths))]
+#[tactic(auto, using(json_keys::proofs::Reading::lengths))]
 fn request_of(value: &Value) -> Option<Request>
     ensures { option_map request_seen result ≡ request_of (view value.now) }
 {

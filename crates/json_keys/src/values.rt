@@ -3,8 +3,8 @@
 ghost use Rattle.std.specs.Prelude.{◌≡◌, option_map};
 ghost use Rattle.serde_json.specs.Find.{get_member};
 ghost use Rattle.serde_json.specs.View.{view, members_view};
-ghost use Rattle.choice_tree.specs.Input.{Reads};
-ghost use Rattle.choice_tree.specs.Json.{document, object_of, natural_at, integer_at, text_at};
+ghost use Rattle.json_keys.specs.Input.{Reads};
+ghost use Rattle.json_keys.specs.Json.{document, object_of, natural_at, integer_at, text_at};
 
 use crate::input::InputFault;
 use serde_json::{Map, Value};

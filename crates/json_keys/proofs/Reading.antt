@@ -11,7 +11,7 @@ use Rattle.serde_json.specs.declared.value.Value.{Value}
 use Rattle.serde_json.specs.Find.{get_member}
 use Rattle.serde_json.specs.View.{view, members_view}
 use Rattle.serde_json.proofs.Views.{view_of_ref, view-lookup, items_len-items_view, members_len-members_view}
-use Rattle.choice_tree.specs.Json.{document}
+use Rattle.json_keys.specs.Json.{document}
 
 pub document_read : (bytes : List ℕ) (d : Data) → IsUtf8 bytes → read bytes ≡ Some d → document bytes ≡ Some d
 document_read bytes d utf8 found = rw (is_utf8-from_IsUtf8 bytes utf8) found

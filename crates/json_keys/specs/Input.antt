@@ -1,7 +1,7 @@
 -- What reading an input file says.
 use Rattle.std.specs.Prelude.{◌≡◌, ℕ, List, codes, Option, Some, None, Result, Ok, Err}
-use Rattle.choice_tree.specs.declared.input.InputFault.{InputFault}
-use Rattle.choice_tree.specs.declared.input.InputFault.TheVariants.{NotBuilt, Memory}
+use Rattle.json_keys.specs.declared.input.InputFault.{InputFault}
+use Rattle.json_keys.specs.declared.input.InputFault.TheVariants.{NotBuilt, Memory}
 
 -- A result, seen by view, is what the file spells: NotBuilt exactly where it spells nothing. Want of memory may come anywhere.
 abbrev pub Reads : {X Y : Type 0} → (X → Y) → Result X InputFault → Option Y → Type 0

@@ -1,5 +1,5 @@
 ghost use Rattle.std.specs.Prelude.{◌≡◌, Some};
-ghost use Rattle.choice_tree.specs.declared.input.InputFault.TheVariants.{Memory};
+ghost use Rattle.json_keys.specs.declared.input.InputFault.TheVariants.{Memory};
 
 use std::alloc::{AllocError, AllocFailed};
 use std::error::Error;
@@ -15,7 +15,7 @@ pub enum InputFault {
 }
 
 impl fmt::Display for InputFault {
-    ghost use Rattle.choice_tree.specs.Input.{message};
+    ghost use Rattle.json_keys.specs.Input.{message};
 
     ghost output = { λ fault. Some (message fault) };
 
