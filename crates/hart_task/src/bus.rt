@@ -11,7 +11,7 @@ const RAM_END: u64 = 0x9000_0000;
 
 /// The link of a hart to the 64 bytes of this number.
 #[derive(Clone, Copy)]
-pub struct Link {
+pub(crate) struct Link {
     pub hart: u8,
     pub granule: u64,
 }
@@ -19,7 +19,7 @@ pub struct Link {
 /// Memory of which no more than one word is known, which stands in RAM, and one link. No byte of it changes: it has room
 /// where there is no RAM alone, for one link.
 #[derive(Drop)]
-pub struct OneWord {
+pub(crate) struct OneWord {
     pub at: u64,
     pub word: u32,
     pub link: Option<Link>,

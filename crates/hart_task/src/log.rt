@@ -23,7 +23,7 @@ impl HartLog {
     ghost use Rattle.world_face.specs.Views.{placed_seen};
 
     /// Makes room for an event, and for a word.
-    pub fn reserve(&mut self) -> Result<(), NoMemory>
+    pub(crate) fn reserve(&mut self) -> Result<(), NoMemory>
         ensures room { OnOk result (HasRoom self.new) }
         ensures same { log_seen self.new ≡ log_seen self.old }
     {
@@ -33,7 +33,7 @@ impl HartLog {
     }
 
     /// Adds an event, for which there is room.
-    pub fn add_event(&mut self, placed: Placed)
+    pub(crate) fn add_event(&mut self, placed: Placed)
         requires { HasRoomForEvent self.old }
         ensures { log_seen self.new ≡ record (log_seen self.old) { events = (log_seen self.old).events ++ placed_seen placed ∷ [] } }
     {
@@ -41,7 +41,7 @@ impl HartLog {
     }
 
     /// Adds a word that was made, for which there is room.
-    pub fn add_word(&mut self, word: u32)
+    pub(crate) fn add_word(&mut self, word: u32)
         requires { HasRoom self.old }
         ensures added { log_seen self.new ≡ record (log_seen self.old) { words = self.old.words.items ++ word ∷ [] } }
         ensures room { HasRoomForEvent self.new }
@@ -50,7 +50,7 @@ impl HartLog {
     }
 
     /// Notes the register that a step wrote, if it wrote one.
-    pub fn write(&mut self, rd: Option<(u8, u64)>)
+    pub(crate) fn write(&mut self, rd: Option<(u8, u64)>)
         requires { IfSome rd (λ w. (0 < w.0) × (w.0 < 32)) }
         ensures written { log_seen self.new ≡ record (log_seen self.old) { present = with_write (present_of self.old.values) rd } }
         ensures room { HasRoom self.old → HasRoom self.new }

@@ -36,7 +36,7 @@ fn ops_of(request: Request) -> Ops
 }
 
 /// The word that the request makes.
-pub fn word_of(request: Request) -> u32
+pub(crate) fn word_of(request: Request) -> u32
     requires { IsMakeableRequest (request_seen request) }
     ensures { result ≡ word_asked request }
 {
@@ -44,7 +44,7 @@ pub fn word_of(request: Request) -> u32
 }
 
 /// Steps the word, which stands at the hart's pc.
-pub fn step_word(hart: &mut Hart, word: u32) -> StepLine
+pub(crate) fn step_word(hart: &mut Hart, word: u32) -> StepLine
     requires zero { slice_index hart.old.x 0 ≡ 0 }
     requires in_ram { IsTrue (in_ram hart.old.pc 4) }
     requires plain { StepsPlainly (hart_seen hart.old) word }

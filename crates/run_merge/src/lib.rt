@@ -7,7 +7,7 @@ mod run;
 mod segments;
 
 pub use merging::merge;
-pub use run::{HartProgram, Run};
+pub use run::Run;
 
 #[cfg(test)]
 mod tests;

@@ -15,7 +15,7 @@ use trace_text::Line;
 const BOOT_STEPS: usize = 70;
 
 /// The order in which so many harts step: their boots, one after another, and then the steps of the lines.
-pub fn order_of(alloc: Global, harts: u8, lines: &[Line]) -> Result<Vec<u8>, NoMemory>
+pub(crate) fn order_of(alloc: Global, harts: u8, lines: &[Line]) -> Result<Vec<u8>, NoMemory>
     ensures { IfOk result (λ order. order.items ≡ whole_order harts (effects_of (lines_seen lines.now))) }
 {
     let mut order = Vec::new(alloc);

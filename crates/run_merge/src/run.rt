@@ -10,7 +10,7 @@ use value_file::ValueFile;
 /// What a hart brings to the program: the words of its window from the first on, and the values that its registers
 /// start with.
 #[derive(Drop)]
-pub struct HartProgram {
+pub(crate) struct HartProgram {
     pub words: Vec<u32>,
     pub values: ValueFile,
 }

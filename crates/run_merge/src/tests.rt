@@ -1,6 +1,7 @@
 ghost use Rattle.std.specs.Prelude.{◌≡◌, ◌<◌, ◌≤◌, length, IfOk};
 
 use super::*;
+use crate::run::HartProgram;
 use ram_image::Ram;
 use region_plan::{HartPlan, Plan};
 use rv_fields::Mode;

@@ -6,21 +6,21 @@ use std::alloc::Global;
 
 /// The link of a hart to the 64 bytes of this number, which it has loaded from by LR while no other hart has stored there.
 #[derive(Clone, Copy)]
-pub struct Link {
+pub(crate) struct Link {
     pub hart: u8,
     pub granule: u64,
 }
 
 /// The links that stand. Each LR adds one at most, and stores of other harts take them away.
 #[derive(Drop)]
-pub struct Links {
+pub(crate) struct Links {
     pub standing: Vec<Link>,
 }
 
 impl Links {
     ghost use Rattle.rv_machine.specs.Room.{HasLinkRoom};
 
-    pub fn new(alloc: Global) -> Links
+    pub(crate) fn new(alloc: Global) -> Links
         ensures { (h g : ℕ) → stands result.standing.items h g ≡ false }
     {
         Links {
@@ -29,7 +29,7 @@ impl Links {
     }
 
     /// Makes room for one more.
-    pub fn reserve(&mut self) -> Result<(), NoMemory>
+    pub(crate) fn reserve(&mut self) -> Result<(), NoMemory>
         ensures room { OnOk result (HasLinkRoom self.new) }
         ensures same { self.new.standing.items ≡ self.old.standing.items }
     {
@@ -38,7 +38,7 @@ impl Links {
     }
 
     /// Whether the hart's link to the granule stands.
-    pub fn stands(&self, hart: u8, granule: u64) -> bool
+    pub(crate) fn stands(&self, hart: u8, granule: u64) -> bool
         ensures { result ≡ stands self.now.standing.items hart granule }
     {
         self.standing
@@ -47,7 +47,7 @@ impl Links {
     }
 
     /// Adds the hart's link to the granule.
-    pub fn add(&mut self, hart: u8, granule: u64)
+    pub(crate) fn add(&mut self, hart: u8, granule: u64)
         requires { HasLinkRoom self.old }
         ensures { (h g : ℕ) → stands self.new.standing.items h g
             ≡ (if (g == granule) && (h == hart) then true else stands self.old.standing.items h g) }
@@ -58,7 +58,7 @@ impl Links {
     }
 
     /// Takes away the links of all other harts to the granule.
-    pub fn take_others(&mut self, hart: u8, granule: u64)
+    pub(crate) fn take_others(&mut self, hart: u8, granule: u64)
         ensures others { (h g : ℕ) → stands self.new.standing.items h g
             ≡ (if g == granule then (if h == hart then stands self.old.standing.items h g else false) else stands self.old.standing.items h g) }
         ensures room { HasLinkRoom self.old → HasLinkRoom self.new }

@@ -16,7 +16,7 @@ const GRANULE: u64 = 64;
 
 /// RAM, the links to it, and a page that makes room for the next store.
 #[derive(Drop)]
-pub struct Memory {
+pub(crate) struct Memory {
     pub ram: Ram,
     pub links: Links,
     pub spare: Option<Spare>,
@@ -25,7 +25,7 @@ pub struct Memory {
 impl Memory {
     ghost use Rattle.rv_machine.specs.Room.{HasRoom};
 
-    pub fn new(alloc: Global, ram: Ram) -> Memory
+    pub(crate) fn new(alloc: Global, ram: Ram) -> Memory
         ensures { memory_seen result ≡ record { byte = whole (memory ram); link = λ h g. Some false } }
     {
         Memory {
@@ -36,7 +36,7 @@ impl Memory {
     }
 
     /// Makes room for a store and a link.
-    pub fn make_room(&mut self, alloc: Global) -> Result<(), NoMemory>
+    pub(crate) fn make_room(&mut self, alloc: Global) -> Result<(), NoMemory>
         ensures room { OnOk result (HasRoom self.new) }
         ensures same { memory_seen self.new ≡ memory_seen self.old }
     {

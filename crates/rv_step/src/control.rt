@@ -15,7 +15,13 @@ use rv_table::{Form, Ops};
 
 impl Hart {
     /// Reads the CSR that the instruction names, and changes it by the operand.
-    pub fn change_csr(&mut self, change: CsrChange, ops: &Ops, operand: u64, word: u32) -> Outcome
+    pub(crate) fn change_csr(
+        &mut self,
+        change: CsrChange,
+        ops: &Ops,
+        operand: u64,
+        word: u32,
+    ) -> Outcome
         ensures outcome { outcome_seen self.new result
             ≡ csr_changed (hart_seen self.old) change ops.now operand word (csr_named_by ops.now) }
         ensures frame { Leaves self.old self.new result }
@@ -51,7 +57,7 @@ impl Hart {
     }
 
     /// Returns from a trap to M, which only mode M may.
-    pub fn return_from_m(&mut self, word: u32) -> Outcome
+    pub(crate) fn return_from_m(&mut self, word: u32) -> Outcome
         ensures outcome { outcome_seen self.new result ≡ returned_from_m (hart_seen self.old) word self.old.mode }
         ensures frame { Leaves self.old self.new result }
     {
@@ -66,7 +72,7 @@ impl Hart {
     }
 
     /// Returns from a trap to S.
-    pub fn return_from_s(&mut self, word: u32) -> Outcome
+    pub(crate) fn return_from_s(&mut self, word: u32) -> Outcome
         ensures outcome { outcome_seen self.new result ≡ returned_from_s (hart_seen self.old) word }
         ensures frame { Leaves self.old self.new result }
     {
@@ -79,7 +85,7 @@ impl Hart {
     }
 
     /// Orders accesses to page tables: there is nothing to do, but some modes may not.
-    pub fn fence_translation(&self, word: u32) -> Outcome
+    pub(crate) fn fence_translation(&self, word: u32) -> Outcome
         ensures { outcome_seen self.now result ≡ (if is_kept_from self.now.mode tvm self.now.csrs.mstatus
             then illegal word else goes (hart_seen self.now) None (behind self.now.pc)) }
     {
@@ -106,7 +112,7 @@ fn csr_number_of(imm: i64) -> u16
 }
 
 /// The operand of a CSR instruction: rs1, or the number that form K has in its place.
-pub fn csr_operand(form: Form, ops: &Ops, rs1: u64) -> u64
+pub(crate) fn csr_operand(form: Form, ops: &Ops, rs1: u64) -> u64
     ensures { result ≡ csr_operand form ops.now rs1 }
 {
     match form {

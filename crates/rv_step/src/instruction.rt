@@ -20,7 +20,7 @@ use rv_table::{Form, Ins, Ops, class_of};
 
 /// An instruction: its row with the row's form, its operands, the values of the registers that it reads, and its word.
 #[derive(Clone, Copy)]
-pub struct Instruction {
+pub(crate) struct Instruction {
     pub ins: Ins,
     pub form: Form,
     pub ops: Ops,
@@ -32,7 +32,7 @@ pub struct Instruction {
 impl Hart {
     /// What comes of the instruction.
     #[tactic(auto, using(crate::proofs::Parts::by_class))]
-    pub fn outcome<B: Bus>(&mut self, bus: &mut B, instruction: &Instruction) -> Outcome
+    pub(crate) fn outcome<B: Bus>(&mut self, bus: &mut B, instruction: &Instruction) -> Outcome
         requires form { instruction.now.form ≡ form_of instruction.now.ins }
         requires told { IsSome (outcome (B.seen bus.old) (hart_seen self.old) (decoded_seen instruction.now) instruction.now.word instruction.now.rs1 instruction.now.rs2) }
         requires room { HasRoomIfTold (B.has_room bus.old) (outcome (B.seen bus.old) (hart_seen self.old) (decoded_seen instruction.now) instruction.now.word instruction.now.rs1 instruction.now.rs2) }

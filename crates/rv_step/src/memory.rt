@@ -18,7 +18,7 @@ use sv_walk::{Rights, Trail, Walked, access_fault, misaligned, translate};
 
 /// An instruction that accesses memory, with the value of rs2: so many bytes at a virtual address.
 #[derive(Clone, Copy)]
-pub struct Target {
+pub(crate) struct Target {
     pub ins: Ins,
     pub rs2: u64,
     pub kind: AccessKind,
@@ -29,7 +29,7 @@ pub struct Target {
 
 /// A target with its physical address, and the page table entries by which it is translated.
 #[derive(Clone, Copy)]
-pub struct Aim {
+pub(crate) struct Aim {
     pub target: Target,
     pub pa: u64,
     pub trail: Trail,
@@ -37,7 +37,7 @@ pub struct Aim {
 
 impl Hart {
     /// The hart's rights in a mode.
-    pub fn rights(&self, mode: Mode) -> Rights
+    pub(crate) fn rights(&self, mode: Mode) -> Rights
         ensures { rights_seen result ≡ steps.rights_of (hart_seen self.now) mode }
     {
         Rights {
@@ -48,7 +48,7 @@ impl Hart {
     }
 
     /// Accesses memory. A misaligned address isn't translated.
-    pub fn access<B: Bus>(&mut self, bus: &mut B, target: &Target) -> Outcome
+    pub(crate) fn access<B: Bus>(&mut self, bus: &mut B, target: &Target) -> Outcome
         requires target { IsTarget target.now }
         requires told { IsSome (steps.access (B.seen bus.old) (hart_seen self.old) (target_seen target.now)) }
         requires room { HasRoomIfTold (B.has_room bus.old) (steps.access (B.seen bus.old) (hart_seen self.old) (target_seen target.now)) }

@@ -14,7 +14,7 @@ use sv_walk::Trail;
 /// What an instruction that retires leaves beside the hart's mode, its CSRs and its reservation, which the hart has
 /// then.
 #[derive(Clone, Copy)]
-pub struct Done {
+pub(crate) struct Done {
     /// The value of rd, if it gives one.
     pub value: Option<u64>,
     /// The address of the next instruction.
@@ -26,14 +26,14 @@ pub struct Done {
 
 /// What comes of an instruction. One that raises a trap leaves the hart as it is.
 #[derive(Clone, Copy)]
-pub enum Outcome {
+pub(crate) enum Outcome {
     Retires(Done),
     Raises { cause: u64, tval: u64, trail: Trail },
 }
 
 impl Hart {
     /// It gives rd a value, or none, and goes on at this address.
-    pub fn goes(&self, value: Option<u64>, next: u64) -> Outcome
+    pub(crate) fn goes(&self, value: Option<u64>, next: u64) -> Outcome
         ensures outcome { outcome_seen self.now result ≡ goes (hart_seen self.now) value next }
         ensures nothing { access_of result ≡ None }
         ensures frame { Leaves self.now self.now result }
@@ -47,7 +47,7 @@ impl Hart {
     }
 
     /// A jump to the target, which has to be a multiple of 4.
-    pub fn jump(&self, value: Option<u64>, target: u64) -> Outcome
+    pub(crate) fn jump(&self, value: Option<u64>, target: u64) -> Outcome
         ensures outcome { outcome_seen self.now result ≡ jump (hart_seen self.now) value target }
         ensures nothing { access_of result ≡ None }
         ensures frame { Leaves self.now self.now result }
@@ -59,7 +59,7 @@ impl Hart {
         }
     }
 
-    pub fn branch(&self, taken: bool, target: u64) -> Outcome
+    pub(crate) fn branch(&self, taken: bool, target: u64) -> Outcome
         ensures outcome { outcome_seen self.now result ≡ branch (hart_seen self.now) taken target }
         ensures nothing { access_of result ≡ None }
         ensures frame { Leaves self.now self.now result }
@@ -72,14 +72,14 @@ impl Hart {
     }
 
     /// The address behind the hart's instruction.
-    pub fn behind(&self) -> u64
+    pub(crate) fn behind(&self) -> u64
         ensures { result ≡ behind self.now.pc }
     {
         self.pc.wrapping_add(4)
     }
 }
 
-pub fn traps(cause: u64, tval: u64) -> Outcome
+pub(crate) fn traps(cause: u64, tval: u64) -> Outcome
     ensures outcome { (h : Hart) → outcome_seen h result ≡ traps cause tval }
     ensures nothing { access_of result ≡ None }
     ensures frame { (h : Hart) → Leaves h h result }
@@ -92,7 +92,7 @@ pub fn traps(cause: u64, tval: u64) -> Outcome
 }
 
 /// An instruction that the word is not, for this hart.
-pub fn illegal(word: u32) -> Outcome
+pub(crate) fn illegal(word: u32) -> Outcome
     ensures outcome { (h : Hart) → outcome_seen h result ≡ illegal word }
     ensures nothing { access_of result ≡ None }
     ensures frame { (h : Hart) → Leaves h h result }
@@ -101,7 +101,7 @@ pub fn illegal(word: u32) -> Outcome
 }
 
 /// The address with the immediate added, modulo 2^64.
-pub fn moved_by(ops: &Ops, from: u64) -> u64
+pub(crate) fn moved_by(ops: &Ops, from: u64) -> u64
     ensures { result ≡ moved_by ops.now from }
 {
     from.wrapping_add_signed(ops.imm)

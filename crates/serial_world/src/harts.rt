@@ -12,7 +12,7 @@ use std::alloc::Global;
 
 /// All harts of a job at work, in one world.
 #[derive(Drop)]
-pub struct Harts {
+pub(crate) struct Harts {
     /// The tasks, in the order of the harts' numbers.
     tasks: Vec<HartTask>,
     world: SerialWorld,
@@ -24,7 +24,7 @@ impl Harts {
     ghost use Rattle.serial_world.specs.Running.{AreFinished, AreRunning, AreUnderWay, Leads, TakesAll, TakesAllBelow, TakesEntry, TakesTurn, all_left, logs_kept};
 
     /// The harts of the job before their first events.
-    pub fn new(alloc: Global, job: &Job, seed: u64) -> Result<Harts, NoMemory>
+    pub(crate) fn new(alloc: Global, job: &Job, seed: u64) -> Result<Harts, NoMemory>
         requires { KeepsRules (work_of job.now) }
         ensures { IfOk result (λ harts. AreRunning (work_of job.now) seed harts []) }
     {
@@ -39,7 +39,7 @@ impl Harts {
     }
 
     /// The hart's next turn.
-    pub fn turn(&mut self, alloc: Global, job: &Job, hart: u8) -> Result<Turned, NoMemory>
+    pub(crate) fn turn(&mut self, alloc: Global, job: &Job, hart: u8) -> Result<Turned, NoMemory>
         requires rules { KeepsRules (work_of job.now) }
         requires running { AreUnderWay (work_of job.now) self.old }
         requires member { hart < hart_count (work_of job.now) }
@@ -50,7 +50,7 @@ impl Harts {
     }
 
     /// The next turn of the hart of an entry, if the job has it.
-    pub fn follow(&mut self, alloc: Global, job: &Job, hart: u8) -> Result<(), NoMemory>
+    pub(crate) fn follow(&mut self, alloc: Global, job: &Job, hart: u8) -> Result<(), NoMemory>
         requires rules { KeepsRules (work_of job.now) }
         requires running { AreUnderWay (work_of job.now) self.old }
         ensures { OnOk result (Leads (work_of job.now) self.old self.new (TakesEntry (hart_count (work_of job.now)) hart)) }
@@ -62,7 +62,7 @@ impl Harts {
     }
 
     /// The hart's turns up to its end.
-    pub fn finish(&mut self, alloc: Global, job: &Job, hart: u8) -> Result<(), NoMemory>
+    pub(crate) fn finish(&mut self, alloc: Global, job: &Job, hart: u8) -> Result<(), NoMemory>
         requires rules { KeepsRules (work_of job.now) }
         requires running { AreUnderWay (work_of job.now) self.old }
         requires member { hart < hart_count (work_of job.now) }
@@ -73,7 +73,7 @@ impl Harts {
     }
 
     /// The turns of each hart up to its end, one hart after another.
-    pub fn finish_all(&mut self, alloc: Global, job: &Job) -> Result<(), NoMemory>
+    pub(crate) fn finish_all(&mut self, alloc: Global, job: &Job) -> Result<(), NoMemory>
         requires rules { KeepsRules (work_of job.now) }
         requires running { AreUnderWay (work_of job.now) self.old }
         ensures { OnOk result (Leads (work_of job.now) self.old self.new (TakesAllBelow (hart_count (work_of job.now)))) }
@@ -85,7 +85,7 @@ impl Harts {
     }
 
     /// Whether the hart has made its ending step.
-    pub fn is_finished(&self, hart: u8) -> bool
+    pub(crate) fn is_finished(&self, hart: u8) -> bool
         requires { hart < vec_len self.now.tasks }
         ensures { (work : Work) (seed : ℕ) (before : List events.Event) → AreRunning work seed self.now before → result ≡ has_ended before hart }
     {
@@ -93,7 +93,7 @@ impl Harts {
     }
 
     /// What the harts did, in the order of their numbers.
-    pub fn into_logs(self, alloc: Global) -> Result<Vec<HartLog>, NoMemory>
+    pub(crate) fn into_logs(self, alloc: Global) -> Result<Vec<HartLog>, NoMemory>
         requires { AreFinished self }
         ensures { IfOk result (λ logs. map log_seen logs.items ≡ logs_kept self) }
     {

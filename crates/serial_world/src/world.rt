@@ -4,7 +4,7 @@ use world_face::{Event, Parts, Taken, World};
 
 /// The world of one thread. There is no part yet, so all that it keeps is the order of its events.
 #[derive(Drop)]
-pub struct SerialWorld {
+pub(crate) struct SerialWorld {
     /// The place of the next event.
     place: u64,
     ghost small: { place ≤ 2 ^ 32 },
@@ -14,7 +14,7 @@ impl SerialWorld {
     ghost use Rattle.std.specs.Prelude.{◌≡◌};
 
     /// A world in which nothing has taken place.
-    pub fn new() -> SerialWorld
+    pub(crate) fn new() -> SerialWorld
         ensures { result.place ≡ 0 }
     {
         SerialWorld { place: 0 }
