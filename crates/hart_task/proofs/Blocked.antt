@@ -26,7 +26,7 @@ use Rattle.hart_task.specs.Acts.{Fixing, begins, event_of, fixing_lines, is_last
 use Rattle.hart_task.specs.Blocks.{AreBlocks, IsBlock, IsInner, Meets, is_met}
 use Rattle.hart_task.specs.Heard.{Heard, heard_of}
 use Rattle.hart_task.specs.OneRun.{IsAtEnd, IsFinishedRun, all_lines}
-use Rattle.hart_task.specs.State.{HartState, Loop, between, finding, finished, handled, index_of, is_done, making, start}
+use Rattle.hart_task.specs.State.{HartState, Loop, at_end, between, finding, handled, index_of, is_done, making, start}
 use Rattle.hart_task.specs.Stepping.{fixed_in, StepTaken, bytes_fixed, late_registers, named_by, runs_of, seen_of, untouched}
 use Rattle.hart_task.specs.Task.{script}
 use Rattle.hart_task.specs.Turn.{Turned, acted, acts, at_rest, done_turn, end_word, is_of, made_step, next_of, next_turn, rest_in_loop, step_turn, turned, turned_in, with_word}
@@ -193,11 +193,11 @@ pub record EndsIt (work : Work) (h : ℕ) (t : Turned) : Type 0 where
   pub e : Effect
   pub has : e.word ≡ Some end_word
   pub lines : lines_of work h t.act ≡ ending e ∷ []
-  pub phase : t.state.phase ≡ finished
+  pub phase : t.state.phase ≡ at_end
 
 -- the ending step's lines are its own line alone
 ends_so : (work : Work) (h k : ℕ) (s : HartState) (heard : Heard) (x : StepTaken) → IsBetween work h k [] s → Made work s end_word heard None x
-    → EndsIt work h (step_turn is_last None None x (record x.state { phase = finished }))
+    → EndsIt work h (step_turn is_last None None x (record x.state { phase = at_end }))
 ends_so work h k s heard x at m =
     let late : List Fixing = late_for (with_word work s end_word) m.taken.here in
     let has : m.taken.r.effect.word ≡ Some end_word = ap (λ (q : StepTaken). q.effect.word) (sym m.taken.is) ∙ m.word in
@@ -210,9 +210,9 @@ ends_so work h k s heard x at m =
     record { e = x.effect; has = m.word; lines = λ i. behind_fixed h (registers i) (bytes i) (ending x.effect ∷ []); phase = refl }
 
 ends_found : (work : Work) (h k : ℕ) (s : HartState) (heard : Heard) (t : Turned) (x : StepTaken) → IsBetween work h k [] s → made_step work s end_word heard None ≡ Some x
-    → Some (step_turn is_last None None x (record x.state { phase = finished })) ≡ Some t → EndsIt work h t
+    → Some (step_turn is_last None None x (record x.state { phase = at_end })) ≡ Some t → EndsIt work h t
 ends_found work h k s heard t x at does is =
-    let turn : step_turn is_last None None x (record x.state { phase = finished }) ≡ t = some_same _ t is in
+    let turn : step_turn is_last None None x (record x.state { phase = at_end }) ≡ t = some_same _ t is in
     subst (EndsIt work h) turn (ends_so work h k s heard x at (made_was work s end_word heard None x does))
 
 ends_it : (work : Work) (h k : ℕ) (s : HartState) (heard : Heard) (t : Turned) → IsBetween work h k [] s → turned work s heard ≡ Some t → EndsIt work h t
@@ -224,7 +224,7 @@ ends_it work h k s heard t at e =
 -- ---- all blocks
 
 -- a finished hart does nothing more
-none_behind : (work : Work) (s : HartState) (es : List Event) (end : HartState) → s.phase ≡ finished → Runs (acts work) (acted work) s es end → es ≡ []
+none_behind : (work : Work) (s : HartState) (es : List Event) (end : HartState) → s.phase ≡ at_end → Runs (acts work) (acted work) s es end → es ≡ []
 none_behind work s [] end at run = refl
 none_behind work s (e ∷ es) end at run = absurd (subst (λ phase. is_of work s.hart.number e (turned_in work s (heard_of e) phase)) at run.0)
 
@@ -323,4 +323,4 @@ blocked work seed h events keeps member run =
     let plain = plain_work work h keeps member in
     let hart = plain_hart work h keeps member in
     let room : 0 + length (script work h) ≤ 1000 = omega (arith, hart.room) in
-    blocks_from work h 0 (script work h) [] (start work seed h) events run.end keeps member room hart.requests (start_between work seed h plain) run.run run.is_finished
+    blocks_from work h 0 (script work h) [] (start work seed h) events run.end keeps member room hart.requests (start_between work seed h plain) run.run run.finished

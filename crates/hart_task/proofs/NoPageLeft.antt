@@ -45,4 +45,4 @@ events = first ∷ loaded ∷ second ∷ ends_at 0 0x20004 0x84000004 ∷ []
 
 pub run : IsFinishedRun job 7 0 events
 unfolding field_of with_field masked written popped ins_at start_csrs start_mode outcome trap_taken step_decoded step word_of state_after
-run = record { end = behind job (start job 7 0) events; run = (refl, (refl, (refl, (refl, refl)))); is_finished = tt }
+run = record { end = behind job (start job 7 0) events; run = (refl, (refl, (refl, (refl, refl)))); finished = tt }

@@ -50,7 +50,7 @@ events = valued ∷ storing ∷ stored ∷ ends_at 0 0x20004 0x84000004 ∷ []
 
 pub run : IsFinishedRun job 7 0 events
 unfolding field_of with_field masked written popped ins_at start_csrs start_mode outcome trap_taken step_decoded step word_of state_after
-run = record { end = behind job (start job 7 0) events; run = (refl, (refl, (refl, (refl, refl)))); is_finished = tt }
+run = record { end = behind job (start job 7 0) events; run = (refl, (refl, (refl, (refl, refl)))); finished = tt }
 
 -- ---- hart 1
 
@@ -72,4 +72,4 @@ events_1 = loading ∷ loaded ∷ ends_at 1 0x20004 0x84100004 ∷ []
 
 pub run_1 : IsFinishedRun job 7 1 events_1
 unfolding field_of with_field masked written popped ins_at start_csrs start_mode outcome trap_taken step_decoded step word_of state_after
-run_1 = record { end = behind job (start job 7 1) events_1; run = (refl, (refl, (refl, refl))); is_finished = tt }
+run_1 = record { end = behind job (start job 7 1) events_1; run = (refl, (refl, (refl, refl))); finished = tt }

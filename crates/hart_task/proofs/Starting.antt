@@ -85,7 +85,7 @@ pub log_of : (work : Work) (t : TaskSeen) → KeepsRules work → Stands work t 
 log_of work t keeps st is =
     let words : length t.log.words ≡ t.begun + 1 = st.words ∙ ap (λ p. words_made p t.begun) is in
     record {
-      run = record { end = state_of work t; run = st.run; is_finished = subst (λ p. IsAtEnd (phase_seen p)) (sym is) tt };
+      run = record { end = state_of work t; run = st.run; finished = subst (λ p. IsAtEnd (phase_seen p)) (sym is) tt };
       words = refl;
       steps = refl;
       values = st.initial;

@@ -31,4 +31,4 @@ events =
 
 pub run : IsFinishedRun job 7 0 events
 unfolding field_of with_field masked written popped ins_at start_csrs start_mode outcome trap_taken step_decoded step
-run = record { end = behind job (start job 7 0) events; run = (refl, (refl, refl)); is_finished = tt }
+run = record { end = behind job (start job 7 0) events; run = (refl, (refl, refl)); finished = tt }

@@ -22,7 +22,7 @@ use Rattle.hart_task.specs.Heard.{Heard, heard_of}
 use Rattle.hart_task.specs.Log.{events_of}
 use Rattle.hart_task.specs.OneRun.{RunsTo, all_lines}
 use Rattle.hart_task.specs.Plain.{plain_effect}
-use Rattle.hart_task.specs.State.{HartState, between, entries_at_first, finished, index_of, start}
+use Rattle.hart_task.specs.State.{HartState, at_end, between, entries_at_first, index_of, start}
 use Rattle.hart_task.specs.Stepping.{fixed_in, late_registers}
 use Rattle.hart_task.specs.Task.{TaskSeen, Stands, IsMaking, index_at, fixed_task, late_of, late_one, phase_seen, script, state_of, stepped_task, task_event, words_made}
 use Rattle.hart_task.specs.declared.task.Phase as task
@@ -97,7 +97,7 @@ made_turns work t heard k word d rd next g =
 pub end_turns : (work : Work) (t : TaskSeen) (heard : Heard) (d : Decoded) (rd : Option (ℕ × ℕ)) (next : Hart)
     → drop t.begun (script work t.hart.number) ≡ [] → Going work (in_phase t tasks.Between) end_word d rd next
     → turned work (state_of work (in_phase t tasks.Between)) heard
-    ≡ Some (record { act = stepping is_last None (late_of t d) t.hart end_word rd; state = record (behind_step work t end_word d rd next) { phase = finished } })
+    ≡ Some (record { act = stepping is_last None (late_of t d) t.hart end_word rd; state = record (behind_step work t end_word d rd next) { phase = at_end } })
 end_turns work t heard d rd next none g =
     let s : HartState = record (state_of work (in_phase t tasks.Between)) { left = [] } in
     let makes : MakesAt work s (length t.log.words) = record { plain = g.makes.plain; few = g.makes.few; short = g.makes.short; free = g.makes.free; pc = g.makes.pc; mode = g.makes.mode } in

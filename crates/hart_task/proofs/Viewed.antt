@@ -19,7 +19,7 @@ use Rattle.world_face.specs.Events.{Settle, Short, Wanted}
 use Rattle.hart_task.specs.Acts.{Act, Begun, Came, Fixing, Picking, answers, begins, gives_up, is_found, is_last, is_made, is_memory, refuses, steps}
 use Rattle.hart_task.specs.Beginning.{Prepared, cause_of, ins_by, is_late, makes, mem_prepared, plain_prepared, prepared, settle_of, value_prepared, words_needed}
 use Rattle.hart_task.specs.Heard.{Heard}
-use Rattle.hart_task.specs.State.{HartState, Loop, Making, Phase, Sequel, Until, WantedLoad, between, counter_of, enters, finding, finished, is_done, making, reaches, turns, wants}
+use Rattle.hart_task.specs.State.{HartState, Loop, Making, Phase, Sequel, Until, WantedLoad, at_end, between, counter_of, enters, finding, is_done, making, reaches, turns, wants}
 use Rattle.hart_task.specs.Stepping.{StepTaken, stepped}
 use Rattle.hart_task.specs.Turn.{Next, Turned, asked_settle, at_rest, begun, begun_turn, demand_of, done_turn, end_word, fixed_by, is_out, last_turn, made_step, made_turn, meets, next_in_body, next_of, next_turn, noting, out_or_on, picked_leaf, placed_turn, reads_wanted, rest_in_loop, step_turn, turned, turned_in, wanted_number, wanted_turn, with_draws, with_pick}
 
@@ -337,4 +337,4 @@ turned_view work s heard t e = of s.phase e
     of (finding k until) e =
         let x = found (stepped work s heard None) _ t e in
         some_view work s heard _ t x.2 (view_step work s heard is_found x.0 _ (None, x.1) (out_is is_found work k until x.0 x.0.state (keeps_same x.0.state)))
-    of finished e = absurd cc
+    of at_end e = absurd cc

@@ -11,7 +11,7 @@ use Rattle.world_face.specs.PagesBook.{pages_after, pages_legal}
 use Rattle.world_face.specs.Runs.{Runs, StandsFor}
 use Rattle.world_face.specs.Shards.{opening_shard, shard_after, shard_legal}
 use Rattle.world_face.specs.Spaces.{space_after, space_legal}
-use Rattle.hart_task.specs.State.{HartState, Phase, between, finding, finished, making, start}
+use Rattle.hart_task.specs.State.{HartState, Phase, at_end, between, finding, making, start}
 use Rattle.hart_task.specs.Turn.{acted, acts}
 
 -- a hart's events are a run of its machine from its start
@@ -22,13 +22,13 @@ abbrev pub IsAtEnd : Phase → Type 0
 IsAtEnd between = ⊥
 IsAtEnd (making m) = ⊥
 IsAtEnd (finding k until) = ⊥
-IsAtEnd finished = Unit {0}
+IsAtEnd at_end = Unit {0}
 
 -- from its start to its end
 pub record IsFinishedRun (work : Work) (seed h : ℕ) (events : List Event) : Type 0 where
   pub end : HartState
   pub run : RunsTo work seed h events end
-  pub is_finished : IsAtEnd end.phase
+  pub finished : IsAtEnd end.phase
 
 -- Each part stands for the events that hold it, from what it is at the opening on.
 pub record PartsStand (work : Work) (forest : Forest) (events : List Event) : Type 0 where

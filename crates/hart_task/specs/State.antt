@@ -54,7 +54,7 @@ pub data Phase : Type 0 where
   making : Making → Phase
   -- the hart steps words that it finds; the request of this number is done when it comes out
   finding : ℕ → Until → Phase
-  finished : Phase
+  at_end : Phase
 
 -- the page table entries before the run that a hart of the space knows
 abbrev pub entries_at_first : Work → Option ℕ → ℕ → Option ℕ

@@ -28,7 +28,7 @@ use Rattle.hart_task.specs.Bus.{word_seen}
 use Rattle.hart_task.specs.Log.{LogSeen, events_of, log_seen}
 use Rattle.hart_task.specs.OneRun.{IsFinishedRun, RunsTo, all_lines}
 use Rattle.hart_task.specs.Schedule.{ends_hart}
-use Rattle.hart_task.specs.State.{HartState, Phase, between, entries_at_first, finished, is_done, making}
+use Rattle.hart_task.specs.State.{HartState, Phase, at_end, between, entries_at_first, is_done, making}
 use Rattle.hart_task.specs.Stepping.{fixed_in, late_registers}
 
 -- a task without where it lies in memory
@@ -47,7 +47,7 @@ task_seen t = record { hart = hart_seen t.hart; phase = t.phase; begun = t.begun
 abbrev pub phase_seen : task.Phase → Phase
 phase_seen tasks.Between = between
 phase_seen (tasks.Making m) = making (record { k = m.k; words = m.word ∷ []; sequel = is_done (Some Quiet) })
-phase_seen tasks.Finished = finished
+phase_seen tasks.Finished = at_end
 
 -- the requests of a hart, in their order
 abbrev pub script : Work → ℕ → List ScriptItem
@@ -133,10 +133,10 @@ events_left work t = 2 * (length (script work t.hart.number) - t.begun) + phase_
 
 -- ---- what a turn is
 
-abbrev pub is_finished : task.Phase → Bool
-is_finished tasks.Between = false
-is_finished (tasks.Making m) = false
-is_finished tasks.Finished = true
+abbrev pub finished : task.Phase → Bool
+finished tasks.Between = false
+finished (tasks.Making m) = false
+finished tasks.Finished = true
 
 -- A turn is one event of the hart, at the place that it took in the world; or there was none, since the hart was finished. What a
 -- world stood for before and stands for now is handed in.
@@ -145,7 +145,7 @@ IsTurn (turned.Event place) old new before now = (event : Event)
     × (new.log.events ≡ old.log.events ++ record { place = place; event = event } ∷ [])
     × (event.hart ≡ old.hart.number)
     × (event.parts ≡ no_parts)
-    × (ends_hart event ≡ is_finished new.phase)
+    × (ends_hart event ≡ finished new.phase)
     × ((events : List Placed) → before events → now (events ++ record { place = place; event = event } ∷ []))
     × AllByRecursion KeepsRanges event.lines
 IsTurn turned.Finished old new before now = (old.phase ≡ tasks.Finished) × (new ≡ old) × ((events : List Placed) → before events → now events)

@@ -9,7 +9,7 @@ use Rattle.boot_words.specs.Layout.{code_start, is_in_handler}
 use Rattle.hart_task.specs.Acts.{Act, Begun, Came, Fixing, Picking, answers, begins, event_of, gives_up, is_found, is_last, is_made, refuses, steps}
 use Rattle.hart_task.specs.Beginning.{Prepared, asks, cause_of, is_late, prepared, settle_of, tree_of, words_needed}
 use Rattle.hart_task.specs.Heard.{Heard, heard_of}
-use Rattle.hart_task.specs.State.{HartState, Loop, Making, Phase, Sequel, Until, WantedLoad, between, enters, finding, finished, handled, index_of, is_done, making, reaches, turns, wants}
+use Rattle.hart_task.specs.State.{HartState, Loop, Making, Phase, Sequel, Until, WantedLoad, at_end, between, enters, finding, handled, index_of, is_done, making, reaches, turns, wants}
 use Rattle.hart_task.specs.Stepping.{StepTaken, byte_in_entries, page_in, stepped}
 use Rattle.region_plan.specs.Plan.{Work, page_of, page_size, plan_of, is_it}
 use Rattle.region_plan.specs.Request.{Demand, Misaligned, PageFault, Plain, Quiet, Request, a_plain, no_arms}
@@ -233,7 +233,7 @@ abbrev pub next_turn : Work → HartState → Heard → Option Next → Option T
 next_turn work s heard (Some n) = Some (begin_turn work s heard n)
 next_turn work s heard None = do
   t ← made_step work s end_word heard None
-  Some (step_turn is_last None None t (record t.state { phase = finished }))
+  Some (step_turn is_last None None t (record t.state { phase = at_end }))
 
 abbrev pub turned_in : Work → HartState → Heard → Phase → Option Turned
 turned_in work s heard between = next_turn work s heard (next_of s s.loop s.left)
@@ -241,7 +241,7 @@ turned_in work s heard (making m) = made_turn work s heard m m.words
 turned_in work s heard (finding k until) = do
   t ← stepped work s heard None
   Some (out_or_on is_found work k until t t.state)
-turned_in work s heard finished = None
+turned_in work s heard at_end = None
 
 -- ---- the one event
 

@@ -134,7 +134,7 @@ impl HartTask {
     }
 
     /// Whether the hart has made its ending step.
-    pub fn is_finished(&self) -> bool
+    pub fn finished(&self) -> bool
         ensures { IsTrue result ↔ (self.now.phase ≡ Phase.Finished) }
     {
         self.phase == Phase::Finished

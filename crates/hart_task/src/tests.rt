@@ -163,18 +163,18 @@ fn answers_a_request_and_ends(rt: HostRuntime) -> Result<(), Fail> {
         turn(&rt, alloc, &mut task, &job, &mut world)?,
         Turned::Event { place: 41 }
     );
-    assert!(rt; !task.is_finished());
+    assert!(rt; !task.finished());
     world.next = 50;
     assert_eq!(rt;
         turn(&rt, alloc, &mut task, &job, &mut world)?,
         Turned::Event { place: 50 }
     );
-    assert!(rt; task.is_finished());
+    assert!(rt; task.finished());
     assert_eq!(rt;
         turn(&rt, alloc, &mut task, &job, &mut world)?,
         Turned::Finished
     );
-    assert!(rt; task.is_finished());
+    assert!(rt; task.finished());
     assert_eq!(rt; world.next, 51);
     let log = task.into_log();
     let made = step_at(0x8400_0000, 0x0050_0093, Some((1, 5)));
@@ -207,7 +207,7 @@ fn ends_at_once_with_no_requests(rt: HostRuntime) -> Result<(), Fail> {
         turn(&rt, alloc, &mut task, &job, &mut world)?,
         Turned::Finished
     );
-    assert!(rt; task.is_finished());
+    assert!(rt; task.finished());
     assert_eq!(rt; world.next, 1);
     let log = task.into_log();
     assert_event(
@@ -229,13 +229,13 @@ fn assert_run(rt: &impl Abort, alloc: Global, job: &Job, turns: u64) -> Result<H
     let mut task = hart_0(alloc, job);
     let mut world = Places { next: 0 };
     for place in 0..turns {
-        assert!(rt; !task.is_finished());
+        assert!(rt; !task.finished());
         assert_eq!(rt;
             turn(rt, alloc, &mut task, job, &mut world)?,
             Turned::Event { place }
         );
     }
-    assert!(rt; task.is_finished());
+    assert!(rt; task.finished());
     Ok(task.into_log())
 }
 

@@ -41,7 +41,7 @@ acts_it = refl
 
 end_state : IsFinishedRun job 7 0 (event ∷ [])
 unfolding field_of with_field masked written popped pushed ins_at word_of start_csrs start_mode outcome trap_taken step_decoded step
-end_state = record { end = acted job (start job 7 0) event; run = (acts_it, refl); is_finished = tt }
+end_state = record { end = acted job (start job 7 0) event; run = (acts_it, refl); finished = tt }
 
 one_run : (forest : Forest) → OneRun job forest 7 (event ∷ [])
 one_run forest = record {

@@ -2,9 +2,9 @@
 use Rattle.std.proofs.Common.{◌≡◌, ◌↔◌, IsTrue, Bool, true, false, refl}
 use Rattle.hart_task.specs.declared.task.Phase as task
 use Rattle.hart_task.specs.declared.task.Phase.TheVariants as tasks
-use Rattle.hart_task.specs.Task.{is_finished}
+use Rattle.hart_task.specs.Task.{finished}
 
-pub finished_is : (phase : task.Phase) (told : Bool) → (IsTrue told ↔ (phase ≡ tasks.Finished)) → told ≡ is_finished phase
+pub finished_is : (phase : task.Phase) (told : Bool) → (IsTrue told ↔ (phase ≡ tasks.Finished)) → told ≡ finished phase
 finished_is tasks.Between true h = let e : tasks.Between ≡ tasks.Finished = h.0 refl in cc
 finished_is tasks.Between false h = refl
 finished_is (tasks.Making m) true h = let e : tasks.Making m ≡ tasks.Finished = h.0 refl in cc

@@ -11,7 +11,7 @@ use Rattle.hart_task.specs.declared.task.Phase as task
 use Rattle.hart_task.specs.declared.task.Phase.TheVariants as tasks
 use Rattle.hart_task.specs.Log.{LogSeen}
 use Rattle.hart_task.specs.Schedule.{has_ended}
-use Rattle.hart_task.specs.Task.{IsLogOf, TaskSeen, is_finished}
+use Rattle.hart_task.specs.Task.{IsLogOf, TaskSeen, finished}
 use Rattle.hart_task.proofs.Starting.{log_of}
 use Rattle.hart_task.specs.Logs.{AreLogsOf}
 use Rattle.serial_world.specs.Running.{Running}
@@ -20,13 +20,13 @@ use Rattle.serial_world.specs.World.{placed_of}
 abbrev pub AllEnded : ℕ → List Event → Type 0
 AllEnded harts events = (h : ℕ) → h < harts → has_ended events h ≡ true
 
-pub is_at_end : (phase : task.Phase) → is_finished phase ≡ true → phase ≡ tasks.Finished
+pub is_at_end : (phase : task.Phase) → finished phase ≡ true → phase ≡ tasks.Finished
 is_at_end tasks.Between is = cc
 is_at_end (tasks.Making m) is = cc
 is_at_end tasks.Finished is = refl
 
 ended_task : (work : Work) (seed next : ℕ) (all : List TaskSeen) (events : List Event) (h : ℕ) (t : TaskSeen) → Running work seed all next events → AllEnded (hart_count work) events → slice_get all h ≡ Some t
-    → is_finished t.phase ≡ true
+    → finished t.phase ≡ true
 ended_task work seed next all events h t runs ended at = (runs.tasks h t at).ended ∙ ended h (omega (arith, slice_get_within all h t at, runs.count))
 
 all_from : {A : Type 0} (P : A → Type 0) (xs : List A) → ((i : ℕ) (x : A) → slice_get xs i ≡ Some x → P x) → AllByRecursion P xs
@@ -34,8 +34,8 @@ all_from P [] each = tt
 all_from P (x ∷ xs) each = (each 0 x refl, all_from P xs (λ i y at. each (suc i) y at))
 
 pub all_at_end : (work : Work) (seed next : ℕ) (all : List TaskSeen) (events : List Event) → Running work seed all next events → AllEnded (hart_count work) events
-    → AllByRecursion (λ (t : TaskSeen). is_finished t.phase ≡ true) all
-all_at_end work seed next all events runs ended = all_from (λ (t : TaskSeen). is_finished t.phase ≡ true) all (λ h t at. ended_task work seed next all events h t runs ended at)
+    → AllByRecursion (λ (t : TaskSeen). finished t.phase ≡ true) all
+all_at_end work seed next all events runs ended = all_from (λ (t : TaskSeen). finished t.phase ≡ true) all (λ h t at. ended_task work seed next all events h t runs ended at)
 
 -- the task whose log it is
 found_in : (all : List TaskSeen) (h : ℕ) (log : LogSeen) → slice_get (map (λ (t : TaskSeen). t.log) all) h ≡ Some log → (t : TaskSeen) × (slice_get all h ≡ Some t) × (t.log ≡ log)
@@ -67,5 +67,5 @@ all_at P [] i x all at = cc
 all_at P (y ∷ ys) zero x all at = let same : y ≡ x = cc in subst P same all.0
 all_at P (y ∷ ys) (suc i) x all at = all_at P ys i x all.1 at
 
-pub finished_at : (all : List TaskSeen) (i : ℕ) (t : TaskSeen) → AllByRecursion (λ (t : TaskSeen). is_finished t.phase ≡ true) all → slice_get all i ≡ Some t → t.phase ≡ tasks.Finished
-finished_at all i t finished at = is_at_end t.phase (all_at (λ (t : TaskSeen). is_finished t.phase ≡ true) all i t finished at)
+pub finished_at : (all : List TaskSeen) (i : ℕ) (t : TaskSeen) → AllByRecursion (λ (t : TaskSeen). finished t.phase ≡ true) all → slice_get all i ≡ Some t → t.phase ≡ tasks.Finished
+finished_at all i t ended at = is_at_end t.phase (all_at (λ (t : TaskSeen). finished t.phase ≡ true) all i t ended at)

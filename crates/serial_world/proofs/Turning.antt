@@ -15,7 +15,7 @@ use Rattle.hart_task.specs.declared.log.Turned.{Turned}
 use Rattle.hart_task.specs.declared.log.Turned.TheVariants as turned
 use Rattle.hart_task.specs.Schedule.{ends_hart, has_ended}
 use Rattle.hart_task.specs.declared.task.HartTask.{HartTask}
-use Rattle.hart_task.specs.Task.{IsTurn, Stands, TaskSeen, events_left, is_finished, task_seen}
+use Rattle.hart_task.specs.Task.{IsTurn, Stands, TaskSeen, events_left, finished, task_seen}
 use Rattle.serial_world.specs.Running.{IsHartOf, Running, TakesTurn}
 use Rattle.serial_world.specs.World.{AreInTurn, in_places, placed_of}
 use Rattle.serial_world.proofs.Ending.{was_unfinished}
@@ -76,7 +76,7 @@ module _ (work : Work) (seed next after place : ℕ) (all : List TaskSeen) (h : 
     pub hart : e.hart ≡ old.hart.number
     pub parts : e.parts ≡ no_parts
     pub ranges : AllByRecursion KeepsRanges e.lines
-    pub ends : ends_hart e ≡ is_finished new.phase
+    pub ends : ends_hart e ≡ finished new.phase
     pub takes : AreInTurn after (in_places events ++ placed place e ∷ [])
     pub nearer : events_left work new < events_left work old
 
@@ -171,7 +171,7 @@ turns_on work seed next after all h old new turned.Finished before runs at stand
     let same : set all h new ≡ all = ap (λ t. set all h t) is.1 ∙ set_same all h old at in
     let none : before ++ [] ≡ before = append-nil before in
     let stays : next ≡ after = sym stood.many ∙ (is.2 (in_places before) stood).many in
-    let ended : has_ended before h ≡ true = sym (runs.tasks h old at).ended ∙ ap is_finished is.0 in (
+    let ended : has_ended before h ≡ true = sym (runs.tasks h old at).ended ∙ ap finished is.0 in (
       [],
       subst (λ l. Running work seed l after (before ++ [])) (sym same) (subst (λ l. Running work seed all after l) (sym none) (subst (λ n. Running work seed all n before) stays runs)),
       (ended, refl),

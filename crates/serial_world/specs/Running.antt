@@ -8,7 +8,7 @@ use Rattle.hart_task.specs.declared.log.Turned.{Turned}
 use Rattle.hart_task.specs.declared.log.Turned.TheVariants as turned
 use Rattle.hart_task.specs.Log.{LogSeen}
 use Rattle.hart_task.specs.Schedule.{AreRising, FollowsList, has_ended}
-use Rattle.hart_task.specs.Task.{Stands, TaskSeen, events_left, is_finished, task_seen}
+use Rattle.hart_task.specs.Task.{Stands, TaskSeen, events_left, finished, task_seen}
 use Rattle.serial_world.specs.declared.harts.Harts.{Harts}
 use Rattle.serial_world.specs.World.{placed_of}
 
@@ -18,7 +18,7 @@ pub record IsHartOf (work : Work) (seed : ℕ) (events : List Event) (h : ℕ) (
   pub number : t.hart.number ≡ h
   pub drawn_by : t.draws.seed ≡ seed
   pub log : t.log.events ≡ placed_of h events
-  pub ended : is_finished t.phase ≡ has_ended events h
+  pub ended : finished t.phase ≡ has_ended events h
 
 -- The tasks of all harts, and the place of the next event. The places last for the events that are left.
 pub record Running (work : Work) (seed : ℕ) (hart_tasks : List TaskSeen) (next : ℕ) (events : List Event) : Type 0 where
@@ -72,7 +72,7 @@ pub record TakesAllBelow (harts : ℕ) (before added : List Event) : Type 0 wher
 
 -- each hart has made its ending step
 abbrev pub AreFinished : Harts → Type 0
-AreFinished harts = AllByRecursion (λ (t : TaskSeen). is_finished t.phase ≡ true) (tasks_seen harts)
+AreFinished harts = AllByRecursion (λ (t : TaskSeen). finished t.phase ≡ true) (tasks_seen harts)
 
 -- what each hart has done
 abbrev pub logs_kept : Harts → List LogSeen

@@ -85,11 +85,11 @@ impl Harts {
     }
 
     /// Whether the hart has made its ending step.
-    pub(crate) fn is_finished(&self, hart: u8) -> bool
+    pub(crate) fn finished(&self, hart: u8) -> bool
         requires { hart < vec_len self.now.tasks }
         ensures { (work : Work) (seed : ℕ) (before : List events.Event) → AreRunning work seed self.now before → result ≡ has_ended before hart }
     {
-        self.tasks[usize::from(hart)].is_finished()
+        self.tasks[usize::from(hart)].finished()
     }
 
     /// What the harts did, in the order of their numbers.

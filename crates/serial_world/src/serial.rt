@@ -56,7 +56,7 @@ pub fn run_drawn(alloc: Global, job: &Job, seed: u64) -> Result<Vec<HartLog>, No
         let index = (draws.next() % unfinished.len() as u64) as usize;
         let hart = unfinished[index];
         harts.turn(alloc, job, hart)?;
-        if harts.is_finished(hart) {
+        if harts.finished(hart) {
             unfinished.remove(index);
         }
     }

@@ -215,9 +215,9 @@ module _ (start : Unread) (read : List Line) (behind : List Effect) (line : Line
       of None d = refl
       of (Some x) d = refl
 
-pub finished : (start : Unread) (read : List Line) (left : List ℕ) (behind : List Effect) (first : Option Difference)
+pub none_remains : (start : Unread) (read : List Line) (left : List ℕ) (behind : List Effect) (first : Option Difference)
     → Remains start read left behind first → left ≡ [] → first ≡ compared start read behind
-finished start read left behind first is ended =
+none_remains start read left behind first is ended =
     sym (ap (λ ls. compared start ls behind) (sym (append-nil read)) ∙ is [] ended ∙ of first)
   where
     of : (first : Option Difference) → option_or first None ≡ first
@@ -266,9 +266,9 @@ begins_to_remain start behind c is = record {
   first_is = remains start is.read (unread c.lines).text behind (option_map difference_seen c.first) is.first_is;
 }
 
-pub is_finished : (start : Unread) (behind : List Effect) (old new : Comparison) → IsRemaining start behind old
+pub finished : (start : Unread) (behind : List Effect) (old new : Comparison) → IsRemaining start behind old
     → HasRead [] (unread old.lines) (unread new.lines) → (unread new.lines).text ≡ [] → new.steps ≡ old.steps → new.first ≡ old.first → IsFinished start behind new
-is_finished start behind old new is reads ended steps first =
+finished start behind old new is reads ended steps first =
     let all : HasRead is.read start (unread new.lines) = subst (λ ls. HasRead ls start (unread new.lines)) (append-nil is.read) (reads_on is.has_read reads) in
     record {
       read = is.read;
@@ -276,5 +276,5 @@ is_finished start behind old new is reads ended steps first =
       ended = ended;
       steps_are = steps ∙ is.steps_are;
       first_is = ap (option_map difference_seen) first
-          ∙ finished start is.read (unread old.lines).text behind (option_map difference_seen old.first) is.first_is (reads.text_is ∙ ended);
+          ∙ none_remains start is.read (unread old.lines).text behind (option_map difference_seen old.first) is.first_is (reads.text_is ∙ ended);
     }

@@ -29,8 +29,8 @@ turn-requires-clause-member c =
     let at = its_place c.turns.unfinished.items (vec_len c.turns.unfinished) c.next.result c.len.result c.index-hart.result.now (sym c.is_empty.ensures ∙ c.turns-test.true) c.turns.unfinished.ok.0 c.len.ensures c.index-hart.ensures in
     its_number (work_of c.args.job.now) c.args.seed c.turns.harts c.turns.unfinished.items c.turns.draws (c.next.result % c.len.result) c.index-hart.result.now c.turns.invariant at
 
-pub is_finished-requires : goal.is_finished-requires
-is_finished-requires c =
+pub finished-requires : goal.finished-requires
+finished-requires c =
     let at = its_place c.turns.unfinished.items (vec_len c.turns.unfinished) c.next.result c.len.result c.index-hart.result.now (sym c.is_empty.ensures ∙ c.turns-test.true) c.turns.unfinished.ok.0 c.len.ensures c.index-hart.ensures in
     let its = drew (work_of c.args.job.now) c.args.seed c.turns.harts c.turn.new.self c.turns.unfinished.items c.turns.draws c.next.new.self c.next.result (c.next.result % c.len.result) c.index-hart.result.now c.in_ok-turn.field-0 c.turns.invariant
     (record { word_is = c.next.ensures.word; count = c.next.ensures.drawn; same_seed = c.next.ensures.seed; same_stream = c.next.ensures.stream })
@@ -39,18 +39,18 @@ is_finished-requires c =
     let many = length-map c.turn.new.self.tasks.items task_seen in
     omega (arith, number, many, its.running.count, c.turn.new.self.tasks.ok.0)
 
-pub turns-smaller-then-is_finished : goal.turns-smaller-then-is_finished
-turns-smaller-then-is_finished c =
+pub turns-smaller-then-finished : goal.turns-smaller-then-finished
+turns-smaller-then-finished c =
     let at = its_place c.turns.unfinished.items (vec_len c.turns.unfinished) c.next.result c.len.result c.index-hart.result.now (sym c.is_empty.ensures ∙ c.turns-test.true) c.turns.unfinished.ok.0 c.len.ensures c.index-hart.ensures in
     drawn_nearer (work_of c.args.job.now) c.args.seed c.turns.harts c.turn.new.self c.turns.unfinished.items c.turns.draws (c.next.result % c.len.result) c.index-hart.result.now c.in_ok-turn.field-0 c.turn.result c.turns.invariant at c.in_ok-turn.ensures.turn c.in_ok-turn.was c.turn.ensures.nearer
 
-pub turns-preserved-then-is_finished : goal.turns-preserved-then-is_finished
-turns-preserved-then-is_finished c =
+pub turns-preserved-then-finished : goal.turns-preserved-then-finished
+turns-preserved-then-finished c =
     let at = its_place c.turns.unfinished.items (vec_len c.turns.unfinished) c.next.result c.len.result c.index-hart.result.now (sym c.is_empty.ensures ∙ c.turns-test.true) c.turns.unfinished.ok.0 c.len.ensures c.index-hart.ensures in
     let its = drew (work_of c.args.job.now) c.args.seed c.turns.harts c.turn.new.self c.turns.unfinished.items c.turns.draws c.next.new.self c.next.result (c.next.result % c.len.result) c.index-hart.result.now c.in_ok-turn.field-0 c.turns.invariant
     (record { word_is = c.next.ensures.word; count = c.next.ensures.drawn; same_seed = c.next.ensures.seed; same_stream = c.next.ensures.stream })
     (ap (λ (n : ℕ). c.next.result % n) (c.len.ensures ∙ c.turns.unfinished.ok.0)) at c.in_ok-turn.ensures.turn in
-    let ended = sym (c.is_finished.ensures (work_of c.args.job.now) c.args.seed _ its.running) ∙ c.if-is_finished.true in
+    let ended = sym (c.finished.ensures (work_of c.args.job.now) c.args.seed _ its.running) ∙ c.if-finished.true in
     subst (λ (l : List ℕ). DrawnSoFar (work_of c.args.job.now) c.args.seed c.turn.new.self l c.next.new.self) (sym c.remove.ensures.items)
     (drawn_last (work_of c.args.job.now) c.args.seed c.turns.harts c.turn.new.self c.turns.unfinished.items c.turns.draws c.next.new.self (c.next.result % c.len.result) c.index-hart.result.now c.turns.invariant its at ended)
 
@@ -65,7 +65,7 @@ turns-preserved c =
     let its = drew (work_of c.args.job.now) c.args.seed c.turns.harts c.turn.new.self c.turns.unfinished.items c.turns.draws c.next.new.self c.next.result (c.next.result % c.len.result) c.index-hart.result.now c.in_ok-turn.field-0 c.turns.invariant
     (record { word_is = c.next.ensures.word; count = c.next.ensures.drawn; same_seed = c.next.ensures.seed; same_stream = c.next.ensures.stream })
     (ap (λ (n : ℕ). c.next.result % n) (c.len.ensures ∙ c.turns.unfinished.ok.0)) at c.in_ok-turn.ensures.turn in
-    let goes_on = sym (c.is_finished.ensures (work_of c.args.job.now) c.args.seed _ its.running) ∙ c.if-is_finished.false in
+    let goes_on = sym (c.finished.ensures (work_of c.args.job.now) c.args.seed _ its.running) ∙ c.if-finished.false in
     drawn_on (work_of c.args.job.now) c.args.seed c.turns.harts c.turn.new.self c.turns.unfinished.items c.turns.draws c.next.new.self (c.next.result % c.len.result) c.index-hart.result.now c.turns.invariant its goes_on
 
 -- ---- behind the last

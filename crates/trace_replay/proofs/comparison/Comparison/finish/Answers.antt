@@ -5,7 +5,7 @@ use Rattle.trace_text.specs.Reading.{HasRead, unread}
 use Rattle.trace_text.specs.Views.{line_seen}
 use Rattle.trace_replay.specs.Judging.{ReadsLine}
 use Rattle.trace_replay.specs.Verdicts.{IsTraceFault}
-use Rattle.trace_replay.proofs.Compared.{is_finished, remains_on}
+use Rattle.trace_replay.proofs.Compared.{finished, remains_on}
 use Rattle.trace_replay.proofs.comparison.Comparison.finish.Goals as goal
 
 pub returns-in_err-line-clause-fault : goal.returns-in_err-line-clause-fault
@@ -24,5 +24,5 @@ loop-line-preserved c = λ start behind is.
 pub returns-clause-finished : goal.returns-clause-finished
 returns-clause-finished c = λ start behind is.
     let reads = subst (λ o. ReadsLine (option_map line_seen o) (unread c.loop-line.self.lines) (unread c.next_line.new.self.lines)) c.in_default.is c.in_ok-line.ensures.next in
-    is_finished start behind c.loop-line.self c.next_line.new.self (c.loop-line.invariant start behind is) reads.0 reads.1
+    finished start behind c.loop-line.self c.next_line.new.self (c.loop-line.invariant start behind is) reads.0 reads.1
     c.in_ok-line.ensures.steps c.in_ok-line.ensures.first
