@@ -34,11 +34,6 @@ natural_at key members = do
   value ← get_member key members
   natural value
 
-abbrev pub integer_at : List ℕ → Members → Option ℤ
-integer_at key members = do
-  value ← get_member key members
-  integer value
-
 abbrev pub text_at : List ℕ → Members → Option (List ℕ)
 text_at key members = do
   value ← get_member key members

@@ -5,7 +5,7 @@ mod input;
 mod values;
 
 pub use input::InputFault;
-pub use values::{Members, document, integer_at, natural_at, object_of, text_at, value_at};
+pub use values::{Members, document, natural_at, object_of, text_at, value_at};
 
 #[cfg(test)]
 mod tests;

@@ -23,8 +23,6 @@ fn reads_by_keys(rt: HostRuntime) -> Result<(), Fail> {
     assert!(rt; value_at("d", members).is_none());
     assert_eq!(rt; natural_at("a", members), Some(7));
     assert_eq!(rt; natural_at("b", members), None);
-    assert_eq!(rt; integer_at("b", members), Some(-7));
-    assert_eq!(rt; integer_at("c", members), None);
     assert_eq!(rt; text_at("c", members), Some("seven"));
     assert_eq!(rt; text_at("a", members), None);
     Ok(())

@@ -4,7 +4,7 @@ ghost use Rattle.std.specs.Prelude.{◌≡◌, option_map};
 ghost use Rattle.serde_json.specs.Find.{get_member};
 ghost use Rattle.serde_json.specs.View.{view, members_view};
 ghost use Rattle.json_keys.specs.Input.{Reads};
-ghost use Rattle.json_keys.specs.Json.{document, object_of, natural_at, integer_at, text_at};
+ghost use Rattle.json_keys.specs.Json.{document, object_of, natural_at, text_at};
 
 use crate::input::InputFault;
 use serde_json::{Map, Value};
@@ -53,13 +53,6 @@ pub fn natural_at(key: &str, members: &Members) -> Option<u64>
     ensures { result ≡ natural_at key.now (members_view members.now.entries) }
 {
     value_at(key, members)?.as_u64()
-}
-
-/// The whole number at a key, which may have a sign.
-pub fn integer_at(key: &str, members: &Members) -> Option<i64>
-    ensures { result ≡ integer_at key.now (members_view members.now.entries) }
-{
-    value_at(key, members)?.as_i64()
 }
 
 /// The text at a key.
