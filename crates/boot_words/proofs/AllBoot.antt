@@ -7,8 +7,7 @@ use Rattle.std.proofs.lemmas.Bool.Decides.{eqb_tells, nat_tests}
 use Rattle.rv_fields.specs.Effect.{Effect}
 use Rattle.rv_fields.specs.Hart.{Hart}
 use Rattle.rv_fields.specs.Memory.{Seen}
-use Rattle.rv_fields.specs.Play.{IsReset, Machine, Plays, after_step}
-use Rattle.region_plan.specs.Rules.{most_harts}
+use Rattle.rv_fields.specs.Play.{IsReset, Machine, Plays, after_step, most_harts}
 use Rattle.boot_words.specs.Boot.{mret, spelled}
 use Rattle.boot_words.specs.Booting.{AreLoadable, HoldsBoot, IsBootedBy, Loads, Runs, boot_steps, booting_words}
 use Rattle.boot_words.specs.Passing.{BeginsWithBoot, PlaysAsTold, behind_boots, boots_from, effects_by}

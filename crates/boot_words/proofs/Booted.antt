@@ -12,6 +12,7 @@ use Rattle.rv_fields.specs.Memory.{Bytes, Seen}
 use Rattle.rv_fields.specs.Ranges.{IsLegal}
 use Rattle.rv_fields.specs.Status.{mprv}
 use Rattle.rv_fields.specs.Trap.{mret_done, mret_mode}
+use Rattle.rv_fields.specs.Play.{most_harts}
 use Rattle.rv_fields.proofs.Legal.{legal_at_reset}
 use Rattle.rv_fields.proofs.Masks.{field_of-with_field}
 use Rattle.rv_fields.proofs.MeaningLaws.{doubleword_result}
@@ -51,7 +52,7 @@ pub record Leads (seen : Seen) (h : ℕ) (loads : Loads) (file : CsrFile) (hart 
   pub at : At h (boot_block_at h + 248) (written_each file boot_csr_list (map loads.csrs boot_csr_list)) last
   pub has : (q : ℕ) → 1 ≤ q → q < 32 → last.x q ≡ Some (loads.x q)
 
-through : (harts h : ℕ) (loads : Loads) (seen : Seen) (file : CsrFile) (hart : Hart) → h < 16 → AreLoadable loads → HoldsBoot harts h loads seen.byte
+through : (harts h : ℕ) (loads : Loads) (seen : Seen) (file : CsrFile) (hart : Hart) → h < most_harts → AreLoadable loads → HoldsBoot harts h loads seen.byte
     → field_of mprv file.mstatus ≡ 0 → At h (boot_block_at h) file hart → Leads seen h loads file hart
 through harts h loads seen file hart few ok holds bare at =
     let block = boot_block_at h in
@@ -115,10 +116,10 @@ pub boots : BootsAlways
 boots harts h loads seen hart member few ok holds reset_is =
     let raw = reset_is.raw in
     let small : h < 2 ^ 64 = omega arith in
-    let few_h : h < 16 = omega arith in
+    let few_h : h < most_harts = omega arith in
     let number : hart.csrs.mhartid ≡ h = ap (λ (file : CsrFile). file.mhartid) reset_is.csrs ∙ hart_number h raw in
     let bare : field_of mprv hart.csrs.mstatus ≡ 0 = ap (λ (file : CsrFile). field_of mprv file.mstatus) reset_is.csrs ∙ untranslated h raw in
-    let at : At h 0x80000000 hart.csrs hart = record {
+    let at : At h dispatcher_at hart.csrs hart = record {
       number = reset_is.number;
       pc_is = reset_is.pc;
       mode = reset_is.mode;

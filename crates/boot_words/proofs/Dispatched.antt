@@ -14,6 +14,7 @@ use Rattle.rv_fields.specs.Immediate.{wrapped}
 use Rattle.rv_fields.specs.Meaning.{computed, left_shift, sum}
 use Rattle.rv_fields.specs.Memory.{Seen}
 use Rattle.rv_fields.specs.Step.{Done, behind, branch, goes, jump, moved_by, traps}
+use Rattle.rv_fields.specs.Play.{most_harts}
 use Rattle.rv_fields.proofs.MeaningLaws.{addi_adds, doubleword_result}
 use Rattle.rv_encode.specs.Fitting.{misfit}
 use Rattle.boot_words.specs.Boot.{dispatcher, instruction, read_csr, spelled}
@@ -105,7 +106,7 @@ count_fits harts small =
 counted : (harts pc : ℕ) → harts < 2048 → computed Addi (to_count harts).ops pc 0 0 ≡ harts
 counted harts pc small = addi_adds (to_count harts).ops pc 0 0 (omega arith) ∙ omega (arith, small)
 
-shifted : (h pc : ℕ) → h < 16 → computed Slli (instruction Slli 5 5 0 (pos 12)).ops pc h 0 ≡ h * 0x1000
+shifted : (h pc : ℕ) → h < most_harts → computed Slli (instruction Slli 5 5 0 (pos 12)).ops pc h 0 ≡ h * 0x1000
 shifted h pc small = doubleword_result left_shift h 12 (omega arith) (omega arith) ∙ omega (arith, small)
 
 based : (pc : ℕ) → pc + 0x1000 < 2 ^ 64 → computed Auipc (instruction Auipc 6 0 0 (pos 0x1000)).ops pc 0 0 ≡ pc + 0x1000
@@ -117,12 +118,12 @@ added pc a b small = doubleword_result sum a b (omega arith) (omega arith) ∙ o
 computes_to : (seen : Seen) (h word r v w : ℕ) (hart : Hart) → Takes seen h hart word (wrote hart r v) → v ≡ w → Takes seen h hart word (wrote hart r w)
 computes_to seen h word r v w hart takes is = record { s = takes.s; steps = takes.steps; quiet = takes.quiet; leads = takes.leads ∙ ap (wrote hart r) is }
 
-pub dispatched : (harts h : ℕ) (seen : Seen) (csrs : CsrFile) (hart : Hart) → h < harts → harts ≤ 16 → csrs.mhartid ≡ h
+pub dispatched : (harts h : ℕ) (seen : Seen) (csrs : CsrFile) (hart : Hart) → h < harts → harts ≤ most_harts → csrs.mhartid ≡ h
     → HoldsEach seen.byte 4 dispatcher_at (dispatcher harts) → At h dispatcher_at csrs hart
     → (end : Hart) × Runs seen h hart (take 7 (dispatcher harts)) end × At h (boot_block_at h) csrs end
 dispatched harts h seen csrs hart member few number holds at0 =
     let few_harts : harts < 2048 = omega arith in
-    let few_h : h < 16 = omega arith in
+    let few_h : h < most_harts = omega arith in
     let step1 = reads_number seen h 0x80000000 csrs hart at0 (record { word = holds.0; fits = refl }) number in
     let h1 = wrote hart 4 h in
     let at1 = wrote_at h 0x80000000 csrs hart 4 h (omega arith) at0 in

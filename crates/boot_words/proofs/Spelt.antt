@@ -4,6 +4,7 @@ use Rattle.std.specs.List.{AllByRecursion}
 use Rattle.std.proofs.lemmas.Bool.Decides.{nat_tests}
 use Rattle.rv_fields.specs.Decode.{Decoded}
 use Rattle.rv_fields.specs.RowTable.{form_of, value_of}
+use Rattle.rv_fields.specs.Play.{most_harts}
 use Rattle.rv_fields.proofs.OneRow.{value_masked}
 use Rattle.rv_encode.specs.Fitting.{misfit}
 use Rattle.rv_encode.proofs.Encoded.{all_fit}
@@ -17,7 +18,7 @@ spelled_small d fits = packed_lt (form_of d.ins) (value_of d.ins) d.ops (value_m
 abbrev pub AreWords : List ℕ → Type 0
 AreWords words = AllByRecursion (λ w. w < 2 ^ 32) words
 
-pub dispatcher_small : (harts : ℕ) → harts ≤ 16 → AreWords (dispatcher harts)
+pub dispatcher_small : (harts : ℕ) → harts ≤ most_harts → AreWords (dispatcher harts)
 dispatcher_small harts few =
     (lit< tt, (spelled_small (to_count harts) (count_fits harts (omega arith)), (lit< tt, (lit< tt, (lit< tt, (lit< tt, (lit< tt, (lit< tt, tt))))))))
 

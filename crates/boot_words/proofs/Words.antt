@@ -1,9 +1,8 @@
 -- The words of the boot block by their places.
-use Rattle.std.proofs.Common.{ℕ, zero, suc, ◌+◌, ◌*◌, ◌<◌, ◌≡◌, ◌≢◌, Bool, true, false, ◌&&◌, eqb, List, length, get_or, set, arith, refl, ap, ◌∙◌, inl, inr}
-use Rattle.std.proofs.Common.{below_more, get_or-set_other, get_or-set_same, lit<}
+use Rattle.std.proofs.Common.{ℕ, zero, suc, ◌+◌, ◌*◌, ◌<◌, ◌≡◌, ◌≢◌, Bool, true, ◌&&◌, eqb, List, length, get_or, set, arith, refl, ap, ◌∙◌, inl, inr, below_more, get_or-set_other, get_or-set_same, lit<}
 use Rattle.std.proofs.Math.ListN.{length-set}
 use Rattle.std.proofs.lemmas.Grind.{same_number_lists}
-use Rattle.std.proofs.lemmas.Bool.{eqb-true}
+use Rattle.std.proofs.lemmas.Bool.{eqb-true, and_parts}
 use Rattle.std.proofs.lemmas.Bool.Decides.{eqb_tells}
 use Rattle.rv_fields.specs.declared.csr.Csr.TheVariants.{Sstatus}
 use Rattle.boot_words.specs.Boot.{boot_block, boot_csr_list, mret, spelled, swap_csr, table_load}
@@ -13,21 +12,13 @@ unfoldable pub holds_below : (ℕ → Bool) → ℕ → Bool
 holds_below p zero = true
 holds_below p (suc n) = p n && holds_below p n
 
-first_true : (a b : Bool) → (a && b) ≡ true → a ≡ true
-first_true true b h = refl
-first_true false b h = h
-
-second_true : (a b : Bool) → (a && b) ≡ true → b ≡ true
-second_true true b h = h
-second_true false b h = cc
-
 pub holds_at : (p : ℕ → Bool) (n : ℕ) → holds_below p n ≡ true → (k : ℕ) → k < n → p k ≡ true
 unfolding holds_below
 holds_at p zero h k lt = absurd (omega arith)
 holds_at p (suc n) h k lt =
     elim (eqb_tells k n) [
-      | inl same ↦ ap p same.1 ∙ first_true (p n) (holds_below p n) h
-      | inr other ↦ holds_at p n (second_true (p n) (holds_below p n) h) k (let ne : k ≢ n = other.1 in omega arith)
+      | inl same ↦ ap p same.1 ∙ (and_parts (p n) (holds_below p n) h).0
+      | inr other ↦ holds_at p n (and_parts (p n) (holds_below p n) h).1 k (let ne : k ≢ n = other.1 in omega arith)
     ]
 
 pub csr_load_at : (k : ℕ) → k < 15 → spelled (table_load 30 (0x400 + 8 * k)) ≡ get_or boot_block (2 * k + 1) 0

@@ -7,11 +7,10 @@ use Rattle.rv_fields.specs.Effect.{Effect}
 use Rattle.rv_fields.specs.Field.{field_of}
 use Rattle.rv_fields.specs.Hart.{Hart, IsComplete}
 use Rattle.rv_fields.specs.Memory.{Bytes, Seen, after_access, told}
-use Rattle.rv_fields.specs.Play.{IsReset}
+use Rattle.rv_fields.specs.Play.{IsReset, most_harts}
 use Rattle.rv_fields.specs.Status.{HasMode, mprv, satp_mode}
 use Rattle.rv_fields.specs.Step.{Stepped, step}
 use Rattle.rv_fields.specs.Trap.{mret_done, mret_mode}
-use Rattle.region_plan.specs.Rules.{most_harts}
 use Rattle.boot_words.specs.Boot.{boot_block, boot_csr_list, dispatcher}
 use Rattle.boot_words.specs.Layout.{boot_block_at, boot_csrs_at, boot_registers_at, dispatcher_at}
 use Rattle.boot_words.specs.Startup.{loaded_csrs}

@@ -3,6 +3,7 @@ use Rattle.std.specs.Prelude.{ℕ, ◌+◌, ◌-◌, ◌*◌, ◌/◌, ◌%◌, 
 use Rattle.rv_fields.specs.declared.mode.Mode.{Mode}
 use Rattle.rv_fields.specs.declared.mode.Mode.TheVariants.{U, S, M}
 use Rattle.rv_fields.specs.Status.{mode_number}
+use Rattle.rv_fields.specs.Play.{reset_pc}
 use Rattle.region_plan.specs.Plan.{HartPlan, Work, page_of, page_size, plan_of}
 
 -- where every hart begins

@@ -1,8 +1,10 @@
 ghost use Rattle.std.specs.Prelude.{◌≡◌};
 ghost use Rattle.boot_words.specs.Layout.{boot_block_at, boot_csrs_at, boot_registers_at, code_start};
 
+use rv_fields::RESET_PC;
+
 /// Where every hart begins.
-pub const DISPATCHER_AT: u64 = 0x8000_0000;
+pub const DISPATCHER_AT: u64 = RESET_PC;
 
 /// Where the trap handler of mode M stands.
 pub const M_HANDLER_AT: u64 = 0x8002_0000;

@@ -11,32 +11,13 @@ use Rattle.std.proofs.lemmas.List.{append-nil, take_more, take-append-drop, at_d
 use Rattle.std.proofs.lemmas.List.Folds.{list_all-map}
 use Rattle.std.proofs.lemmas.List.Elements.{All-contains, All-contains_itself, Contains-push, Contains-push_cases, Contains-append_left}
 use Rattle.std.proofs.lemmas.List.Sums.{AllPass-from_list_all, list_all-from_AllPass}
-use Rattle.rv_fields.specs.Memory.{ram_end}
-use Rattle.ram_image.specs.Segments.{Span, lies_in_ram, is_apart}
+use Rattle.ram_image.specs.Segments.{is_apart}
+use Rattle.ram_image.proofs.Spans.{apart_before, apart_behind, apart_cases, apart_none, apart_other_none}
 use Rattle.elf_file.specs.declared.fault.ElfFault.{ElfFault}
 use Rattle.elf_file.specs.declared.fields.ProgramHeader.{ProgramHeader}
 use Rattle.elf_file.specs.Faults.{first_fault, span_of, apart_test, apart_tests}
 use Rattle.elf_file.specs.Taken.{Takes, IsTaken, AreTaken}
 use Rattle.elf_file.proofs.FirstFault.{first_fault_none, all_hold, first_fault-behind, first_fault-before}
-
-pub apart_none : (s t : Span) → s.size ≡ 0 → is_apart s t ≡ true
-apart_none s t none = grind (arith, nat_tests)
-
-pub apart_other_none : (s t : Span) → t.size ≡ 0 → is_apart s t ≡ true
-apart_other_none s t none = grind (arith, nat_tests)
-
-apart_before : (s t : Span) → s.at + s.size ≤ t.at → is_apart s t ≡ true
-apart_before s t le = grind (arith, nat_tests)
-
-apart_behind : (s t : Span) → t.at + t.size ≤ s.at → is_apart s t ≡ true
-apart_behind s t le = grind (arith, nat_tests)
-
-apart_cases : (s t : Span) → is_apart s t ≡ true → 0 < s.size → 0 < t.size → (s.at + s.size ≤ t.at) ⊎ (t.at + t.size ≤ s.at)
-apart_cases s t apart some other = grind (arith, nat_tests)
-
--- the end of a segment in RAM
-pub ends_in_ram : (s : Span) → lies_in_ram s ≡ true → 0 < s.size → s.at + s.size ≤ ram_end
-ends_in_ram s ram some = grind (arith, nat_tests)
 
 -- ---- one segment and others
 

@@ -2,11 +2,13 @@
 use Rattle.std.proofs.Common.{◌≡◌, ℕ, suc, ◌+◌, ◌-◌, ◌*◌, ◌^◌, ◌<◌, ◌≤◌, true, false, eqb, ltb, leb, ◌&&◌, cond, List, [], ◌∷◌, ◌++◌, length, take, drop, get_or, map, ◌⊎◌, inl, inr, Some, None, refl, sym, ap, ◌∙◌, append_assoc, arith}
 use Rattle.std.specs.Prelude.{filter, unwrap_or}
 use Rattle.std.specs.List.{AllByRecursion, list_all, flat_map}
-use Rattle.std.proofs.lemmas.Bool.{and_parts, and_from, or_cases, or_right, or_left, eq-eqb, eqb-true, le-leb, leb-true, le-ltb, lt-leb, cases_lt, and_left, and_right, cond-false}
+use Rattle.std.proofs.lemmas.Bool.{and_parts, and_from, or_right, or_left, eq-eqb, le-leb, leb-true, le-ltb, lt-leb, cases_lt, and_left, and_right, cond-false}
 use Rattle.std.proofs.lemmas.List.{length-append, length-take, get_or_past, get_or-take, get_or-drop}
 use Rattle.std.proofs.lemmas.List.Concat.{flat_map-cons}
 use Rattle.std.proofs.lemmas.List.Folds.{list_all-append}
+use Rattle.rv_fields.specs.Memory.{ram_end, ram_start}
 use Rattle.ram_image.specs.Segments.{span_of as span_of_stretch, Stretch, Span, stretch_byte, memory_of, lies_in_ram, is_apart, are_apart, has_room, are_sound}
+use Rattle.ram_image.proofs.Spans.{apart_none, apart_other_none, size_in_ram, span_parts}
 use Rattle.elf_file.specs.declared.fields.ProgramHeader.{ProgramHeader}
 use Rattle.elf_file.specs.Writing.{Placed, placed_at, placed, page_from, trimmed, program_header, file_header, headers_size, elf_of}
 use Rattle.elf_file.specs.Headers.{field, header_offset, header_count, headers_from, is_load, loads}
@@ -15,7 +17,6 @@ use Rattle.elf_file.specs.Loading.{is_loadable, segment_in, load}
 use Rattle.elf_file.proofs.ReadBack.{FitsFields, read_again, read_again-same, header_of, headers_of, headers_from-placed, number_of-two}
 use Rattle.elf_file.proofs.Trimming.{byte_of-trimmed, length-trimmed}
 use Rattle.elf_file.proofs.Bytes.{Has, has_placed, page_from-lt}
-use Rattle.elf_file.proofs.Clashes.{apart_none, apart_other_none}
 use Rattle.elf_file.proofs.Soundness.{hold_from_apart}
 use Rattle.elf_file.specs.Placing.{laid_from}
 
@@ -29,23 +30,7 @@ pub record IsSound (p : Placed) : Type 0 where
   pub ram : lies_in_ram (record { at = p.at; size = p.size }) ≡ true
   pub at : (p.size ≡ 0) ⊎ (read_again p.at ≡ p.at)
 
-in_ram_parts : (at size : ℕ) → (leb 0x80000000 at && leb (at + size) 0x90000000) ≡ true → (0x80000000 ≤ at) × (at + size ≤ 0x90000000)
-in_ram_parts at size e =
-    let both = and_parts (leb 0x80000000 at) (leb (at + size) 0x90000000) e in
-    (leb-true 0x80000000 at both.0, leb-true (at + size) 0x90000000 both.1)
-
-pub ram_cases : (s : Span) → lies_in_ram s ≡ true → (s.size ≡ 0) ⊎ ((0x80000000 ≤ s.at) × (s.at + s.size ≤ 0x90000000))
-ram_cases s ram =
-    elim (or_cases (eqb s.size 0) (leb 0x80000000 s.at && leb (s.at + s.size) 0x90000000) ram) [
-      | inl e ↦ inl (eqb-true s.size 0 e)
-      | inr e ↦ inr (in_ram_parts s.at s.size e)
-    ]
-
-pub size_in_ram : (at size : ℕ) → (size ≡ 0) ⊎ ((0x80000000 ≤ at) × (at + size ≤ 0x90000000)) → size ≤ 0x10000000
-size_in_ram at size (inl none) = omega arith
-size_in_ram at size (inr within) = omega (arith, within)
-
-address_read : (at size : ℕ) → (size ≡ 0) ⊎ ((0x80000000 ≤ at) × (at + size ≤ 0x90000000)) → (size ≡ 0) ⊎ (read_again at ≡ at)
+address_read : (at size : ℕ) → (size ≡ 0) ⊎ ((ram_start ≤ at) × (at + size ≤ ram_end)) → (size ≡ 0) ⊎ (read_again at ≡ at)
 address_read at size (inl none) = inl none
 address_read at size (inr within) = inr (read_again-same at (omega (arith, within)))
 
@@ -55,8 +40,8 @@ sound_placed [] end rooms rams low = tt
 sound_placed (s ∷ ss) end rooms rams low =
     let room = and_parts (has_room s) (list_all has_room ss) rooms in
     let ram = and_parts (lies_in_ram (span_of_stretch s)) (list_all (λ s. lies_in_ram (span_of_stretch s)) ss) rams in
-    let cases = ram_cases (span_of_stretch s) ram.0 in
-    let small : s.size ≤ 0x10000000 = size_in_ram s.at s.size cases in
+    let cases = span_parts (span_of_stretch s) ram.0 in
+    let small : s.size ≤ ram_end - ram_start = size_in_ram s.at s.size cases in
     let fits : length s.bytes ≤ s.size = leb-true (length s.bytes) s.size room.0 in
     let kept : length (trimmed s.bytes) ≤ length s.bytes = length-trimmed s.bytes in
     let near : page_from end < end + 4096 = page_from-lt end in

@@ -1,16 +1,18 @@
 -- The whole file: its parts, and what sound segments give the code.
-use Rattle.std.proofs.Common.{◌≡◌, ℕ, ◌+◌, ◌≤◌, true, ◌&&◌, List, [], ◌∷◌, ◌++◌, length, map, All, sym, ap, ◌∙◌, append_assoc, arith}
+use Rattle.std.proofs.Common.{◌≡◌, ℕ, ◌+◌, ◌-◌, ◌≤◌, true, ◌&&◌, List, [], ◌∷◌, ◌++◌, length, map, All, sym, ap, ◌∙◌, append_assoc, arith}
 use Rattle.std.specs.Prelude.{Some}
 use Rattle.std.specs.List.{AllByRecursion, list_all, flat_map}
 use Rattle.std.proofs.lemmas.Bool.{and_parts, leb-true}
 use Rattle.std.proofs.lemmas.List.{length-append, length-map}
 use Rattle.std.proofs.lemmas.List.Elements.{All-from_recursion}
+use Rattle.rv_fields.specs.Memory.{ram_end, ram_start}
 use Rattle.ram_image.specs.declared.segment.Segment.{Segment}
 use Rattle.ram_image.specs.Segments.{Stretch, stretch_of, stretches, span_of, has_room, lies_in_ram, are_apart, are_sound, memory_of}
+use Rattle.ram_image.proofs.Spans.{size_in_ram, span_parts}
 use Rattle.elf_file.specs.Writing.{Placed, placed, program_header, file_header, headers_size, elf_of}
 use Rattle.elf_file.specs.Loading.{load}
 use Rattle.elf_file.specs.Placing.{laid_from, IsSmall}
-use Rattle.elf_file.proofs.LoadLaw.{length-headers, length-placed, size_in_ram, ram_cases, load-elf_of}
+use Rattle.elf_file.proofs.LoadLaw.{length-headers, length-placed, load-elf_of}
 
 -- ---- the parts of a file
 
@@ -57,7 +59,7 @@ small_each [] rooms rams = tt
 small_each (s ∷ segments) rooms rams =
     let room = and_parts (has_room (stretch_of s)) (list_all has_room (stretches segments)) rooms in
     let ram = and_parts (lies_in_ram (span_of (stretch_of s))) (list_all (λ x. lies_in_ram (span_of x)) (stretches segments)) rams in
-    let small : s.size ≤ 0x10000000 = size_in_ram s.at s.size (ram_cases (span_of (stretch_of s)) ram.0) in
+    let small : s.size ≤ ram_end - ram_start = size_in_ram s.at s.size (span_parts (span_of (stretch_of s)) ram.0) in
     let fits : length s.bytes.items ≤ s.size = leb-true (length s.bytes.items) s.size room.0 in
     (omega arith, small_each segments room.1 ram.1)
 

@@ -1,6 +1,7 @@
 -- What keeps a file from being loaded: tests in their order, and the fault of the first that fails.
 use Rattle.std.specs.Prelude.{ℕ, ◌+◌, ◌*◌, List, [], ◌∷◌, ◌++◌, length, map, Bool, Option, Some, None, Result, Ok, Err, ◌≡◌, ◌≢◌, nat_le, ◌==◌, ◌||◌, if◌then◌else◌}
 use Rattle.std.specs.List.{flat_map}
+use Rattle.rv_fields.specs.Play.{reset_pc}
 use Rattle.ram_image.specs.Segments.{Span, lies_in_ram, is_apart}
 use Rattle.elf_file.specs.declared.fault.ElfField.{ElfField}
 use Rattle.elf_file.specs.declared.fault.ElfField.TheVariants.{Class, Encoding, Version, FileType, Machine, Entry, Flags, PhEntSize, FileSize}
@@ -28,7 +29,7 @@ abbrev pub field_test : ElfField → ℕ → ℕ → Test
 field_test name value wanted = record { holds = value == wanted; fault = NotThis name value }
 
 -- The header is whole, and it is that of a program for this machine: 64 bits, little endian, version 1, an
--- executable, for RISC-V, that begins at the start of RAM, without flags, and with program headers of 56 bytes.
+-- executable, for RISC-V, that begins where harts do at reset, without flags, and with program headers of 56 bytes.
 -- These are whole too.
 unfoldable pub header_tests : List ℕ → List Test
 header_tests file =
@@ -39,7 +40,7 @@ header_tests file =
     ∷ field_test Version (field file 6 1) 1
     ∷ field_test FileType (field file 16 2) 2
     ∷ field_test Machine (field file 18 2) 243
-    ∷ field_test Entry (field file 24 8) 0x80000000
+    ∷ field_test Entry (field file 24 8) reset_pc
     ∷ field_test Flags (field file 48 4) 0
     ∷ field_test PhEntSize (field file 54 2) 56
     ∷ length_test file (header_offset file) (56 * header_count file)

@@ -2,6 +2,7 @@
 use Rattle.std.specs.Prelude.{ℕ, ◌+◌, ◌-◌, ◌*◌, ◌/◌, List, [], ◌∷◌, ◌++◌, length, map, filter, Bool, not, ◌==◌, ◌&&◌, if◌then◌else◌}
 use Rattle.std.specs.List.{flat_map}
 use Rattle.std.specs.Int.{w16, w32, w64, to_le_bytes}
+use Rattle.rv_fields.specs.Play.{reset_pc}
 use Rattle.ram_image.specs.Pieces.{Piece, laid}
 use Rattle.ram_image.specs.Segments.{Stretch}
 
@@ -45,13 +46,13 @@ header_size = 64
 abbrev pub entry_size : ℕ
 entry_size = 56
 
--- The header: ELF64, little endian, an executable for RISC-V that begins at the start of RAM, with so
+-- The header: ELF64, little endian, an executable for RISC-V that begins where harts do at reset, with so
 -- many program headers right behind this header, and no sections.
 abbrev pub file_header : ℕ → List ℕ
 file_header count =
     (0x7f ∷ 0x45 ∷ 0x4c ∷ 0x46 ∷ 2 ∷ 1 ∷ 1 ∷ 0 ∷ 0 ∷ 0 ∷ 0 ∷ 0 ∷ 0 ∷ 0 ∷ 0 ∷ 0 ∷ [])
     ++ to_le_bytes w16 2 ++ to_le_bytes w16 243 ++ to_le_bytes w32 1
-    ++ to_le_bytes w64 0x80000000 ++ to_le_bytes w64 header_size ++ to_le_bytes w64 0
+    ++ to_le_bytes w64 reset_pc ++ to_le_bytes w64 header_size ++ to_le_bytes w64 0
     ++ to_le_bytes w32 0 ++ to_le_bytes w16 header_size ++ to_le_bytes w16 entry_size ++ to_le_bytes w16 count
     ++ to_le_bytes w16 0 ++ to_le_bytes w16 0 ++ to_le_bytes w16 0
 

@@ -8,12 +8,8 @@ use crate::fault::{ElfFault, ElfField};
 use crate::fields::{
     ProgramHeader, field_u8, field_u16, field_u32, field_u64, header_count, header_offset,
 };
-use crate::headers::{ENTRY_POINT, ENTRY_SIZE, EXECUTABLE, HEADER_SIZE, MAGIC, RISCV};
-
-/// The addresses of RAM.
-const RAM_START: u64 = 0x8000_0000;
-
-const RAM_END: u64 = 0x9000_0000;
+use crate::headers::{ENTRY_SIZE, EXECUTABLE, HEADER_SIZE, MAGIC, RISCV};
+use rv_fields::{RESET_PC, in_ram};
 
 /// Finds the first fault of the file's header, and of the place where the program headers stand.
 #[tactic(auto, unfolding(crate::specs::Faults::header_tests))]
@@ -39,7 +35,7 @@ pub fn check_header(bytes: &[u8]) -> Result<(), ElfFault>
         u64::from(field_u16(bytes, 18)),
         u64::from(RISCV),
     )?;
-    check_field(ElfField::Entry, field_u64(bytes, 24), ENTRY_POINT)?;
+    check_field(ElfField::Entry, field_u64(bytes, 24), RESET_PC)?;
     check_field(ElfField::Flags, u64::from(field_u32(bytes, 48)), 0)?;
     check_field(
         ElfField::PhEntSize,
@@ -77,7 +73,7 @@ pub fn check_segment(bytes: &[u8], header: &ProgramHeader) -> Result<(), ElfFaul
 fn lies_in_ram(at: u64, size: u64) -> bool
     ensures { result ≡ lies_in_ram (record { at = at; size = size }) }
 {
-    size == 0 || (RAM_START <= at && at <= RAM_END && size <= RAM_END - at)
+    size == 0 || in_ram(at, size)
 }
 
 /// Finds a fault where the value of a field isn't the wanted one.

@@ -4,6 +4,7 @@ ghost use Rattle.elf_file.specs.Placing.{view};
 
 use crate::placing::{PAGE, Placed};
 use byteorder::{ByteOrder, LittleEndian};
+use rv_fields::RESET_PC;
 
 /// The length of the file's header.
 pub const HEADER_SIZE: usize = 64;
@@ -25,9 +26,6 @@ pub const RISCV: u16 = 243;
 
 const VERSION: u32 = 1;
 
-/// The start of RAM, where a program begins.
-pub const ENTRY_POINT: u64 = 0x8000_0000;
-
 /// The kind of a program header whose segment is loaded.
 pub const LOAD: u32 = 1;
 
@@ -40,7 +38,7 @@ pub fn file_header(count: u16) -> [u8; HEADER_SIZE]
     LittleEndian::write_u16(&mut header[16..], EXECUTABLE);
     LittleEndian::write_u16(&mut header[18..], RISCV);
     LittleEndian::write_u32(&mut header[20..], VERSION);
-    LittleEndian::write_u64(&mut header[24..], ENTRY_POINT);
+    LittleEndian::write_u64(&mut header[24..], RESET_PC);
     LittleEndian::write_u64(&mut header[32..], HEADER_SIZE as u64);
     LittleEndian::write_u16(&mut header[52..], HEADER_SIZE as u16);
     LittleEndian::write_u16(&mut header[54..], ENTRY_SIZE as u16);

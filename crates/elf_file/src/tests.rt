@@ -3,7 +3,7 @@ ghost use Rattle.ram_image.specs.Segments.{stretches, are_sound};
 
 use super::*;
 use ram_image::Segment;
-use rv_fields::NoMemory;
+use rv_fields::{NoMemory, RAM_START};
 use std::alloc::{AllocError, Global};
 use std::test::*;
 
@@ -58,7 +58,7 @@ fn example(alloc: Global) -> Result<[Segment; 3], AllocError>
 {
     Ok([
         Segment {
-            at: 0x8000_0000,
+            at: RAM_START,
             bytes: ending_with(alloc, 7, 0x1471)?,
             size: 0x2000,
             flags: 5,
@@ -84,7 +84,7 @@ fn zeros_last(alloc: Global) -> Result<[Segment; 2], AllocError>
 {
     Ok([
         Segment {
-            at: 0x8000_0000,
+            at: RAM_START,
             bytes: ending_with(alloc, 1, 1)?,
             size: 0x1000,
             flags: 4,

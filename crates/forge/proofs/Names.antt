@@ -4,6 +4,7 @@ use Rattle.std.specs.Prelude.{◌&&◌, ◌||◌, not}
 use Rattle.std.specs.Str.{bytes_eq}
 use Rattle.std.proofs.lemmas.Slice.Eq.{bytes_eq-Decides}
 use Rattle.std.specs.List.{list_any}
+use Rattle.std.proofs.lemmas.Bool.{and_parts}
 use Rattle.forge.specs.Words.{making_of, replaying_of, seed_of, are_files, are_different, is_option}
 
 -- a test of what references point to
@@ -91,14 +92,6 @@ more f (x ∷ y ∷ z ∷ u ∷ r) many = refl
 same_text : (x y : List ℕ) → x ≡ y → bytes_eq x y ≡ true
 same_text x y e = (bytes_eq-Decides x y).1 e
 
-and_left : (p q : Bool) → (p && q) ≡ true → p ≡ true
-and_left true q h = refl
-and_left false q h = h
-
-and_right : (p q : Bool) → (p && q) ≡ true → q ≡ true
-and_right true q h = h
-and_right false q h = cc
-
 -- where none of three tests holds of the first, or of the second
 none_of : (p q r : Bool) → not (p || (q || r)) ≡ true → (p ≡ false) × (q ≡ false)
 none_of false false r h = (refl, refl)
@@ -109,17 +102,17 @@ differ : (x y : List ℕ) → bytes_eq x y ≡ false → x ≢ y
 differ x y h e = let t : bytes_eq x y ≡ true = same_text x y e in cc
 
 before : (w : List ℕ) (ws : List (List ℕ)) → are_different (w ∷ ws) ≡ true → not (list_any (bytes_eq w) ws) ≡ true
-before w ws h = and_left (not (list_any (bytes_eq w) ws)) (are_different ws) h
+before w ws h = (and_parts (not (list_any (bytes_eq w) ws)) (are_different ws) h).0
 
 after : (w : List ℕ) (ws : List (List ℕ)) → are_different (w ∷ ws) ≡ true → are_different ws ≡ true
-after w ws h = and_right (not (list_any (bytes_eq w) ws)) (are_different ws) h
+after w ws h = (and_parts (not (list_any (bytes_eq w) ws)) (are_different ws) h).1
 
 -- files that differ
 pub apart : (job trees elf order trace : List ℕ) → are_files (job ∷ trees ∷ elf ∷ order ∷ trace ∷ []) ≡ true
     → (elf ≢ order) × (elf ≢ trace) × (order ≢ trace)
 apart job trees elf order trace h =
     let all : are_different (job ∷ trees ∷ elf ∷ order ∷ trace ∷ []) ≡ true =
-    and_right (not (list_any is_option (job ∷ trees ∷ elf ∷ order ∷ trace ∷ []))) (are_different (job ∷ trees ∷ elf ∷ order ∷ trace ∷ [])) h in
+    (and_parts (not (list_any is_option (job ∷ trees ∷ elf ∷ order ∷ trace ∷ []))) (are_different (job ∷ trees ∷ elf ∷ order ∷ trace ∷ [])) h).1 in
     let written : are_different (elf ∷ order ∷ trace ∷ []) ≡ true = after trees (elf ∷ order ∷ trace ∷ []) (after job (trees ∷ elf ∷ order ∷ trace ∷ []) all) in
     let first = none_of (bytes_eq elf order) (bytes_eq elf trace) false (before elf (order ∷ trace ∷ []) written) in
     let second = none_of (bytes_eq order trace) false false (before order (trace ∷ []) (after elf (order ∷ trace ∷ []) written)) in

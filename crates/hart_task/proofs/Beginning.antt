@@ -1,9 +1,9 @@
 -- A task behind the begin of a request stands where the hart's machine does.
 use Rattle.std.proofs.Common.{ℕ, zero, suc, ◌+◌, ◌^◌, ◌<◌, ◌≤◌, ◌≡◌, List, [], ◌∷◌, length, Some, None, refl, sym, ap, subst, ◌∙◌, arith}
 use Rattle.std.specs.Prelude.{drop, slice_get, option_map}
-use Rattle.std.specs.List.{AllByRecursion}
 use Rattle.std.proofs.lemmas.List.{length-append}
 use Rattle.rv_fields.specs.Decode.{decoded}
+use Rattle.rv_fields.proofs.Lists.{each_at}
 use Rattle.region_plan.specs.declared.request.Item as item
 use Rattle.region_plan.specs.declared.request.Item.TheVariants.{One}
 use Rattle.region_plan.specs.declared.request.Request as code
@@ -36,11 +36,6 @@ pub script_at : (items : List item.Item) (i : ℕ) → slice_get (script_of (ite
 script_at [] i = refl
 script_at (One r ∷ items) zero = refl
 script_at (One r ∷ items) (suc i) = script_at items i
-
-pub each_at : {A : Type 0} (P : A → Type 0) (xs : List A) (i : ℕ) (x : A) → AllByRecursion P xs → slice_get xs i ≡ Some x → P x
-each_at P [] i x all at = absurd cc
-each_at P (y ∷ ys) zero x all at = let same : y ≡ x = cc in subst P same all.0
-each_at P (y ∷ ys) (suc i) x all at = each_at P ys i x all.1 at
 
 -- a request of the script can be made, and is one of no more than a thousand
 pub script_makeable : (work : Work) (h i : ℕ) (x : ScriptItem) → KeepsRules work → h < hart_count work → slice_get (script work h) i ≡ Some x → IsMakeable x

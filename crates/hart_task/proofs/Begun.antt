@@ -1,9 +1,10 @@
 -- Starting values by longer lists of lines, and what is left of a script.
-use Rattle.std.proofs.Common.{ℕ, zero, suc, ◌+◌, ◌≤◌, ◌≡◌, Bool, true, false, cond, eqb, ne_eqb, eqb-true, eq-eqb, List, [], ◌∷◌, ◌++◌, length, Option, Some, None, inl, inr, refl, sym, ap, ◌∙◌, arith}
+use Rattle.std.proofs.Common.{ℕ, zero, suc, ◌+◌, ◌≤◌, ◌≡◌, Bool, true, false, cond, eqb, ne_eqb, eqb-true, eq-eqb, List, [], ◌∷◌, ◌++◌, length, Some, None, inl, inr, refl, sym, ap, ◌∙◌, arith}
 use Rattle.std.proofs.lemmas.Bool.{cases_eq}
 use Rattle.std.specs.Prelude.{drop, slice_get}
 use Rattle.std.specs.Option.{option_or}
 use Rattle.rv_fields.specs.Hart.{Registers, updated}
+use Rattle.rv_fields.proofs.Options.{or_assoc, or_none}
 use Rattle.region_plan.specs.Script.{ScriptItem}
 use Rattle.trace_text.specs.Lines.{Line, fixed, fixed_by, starting}
 
@@ -13,14 +14,6 @@ pub starting_append : (ls more : List Line) (h r : ℕ) → starting (ls ++ more
 starting_append [] more h r = refl
 starting_append (l ∷ ls) more h r =
     ap (λ o. option_or (fixed_by h r l) o) (starting_append ls more h r) ∙ or_assoc (fixed_by h r l) (starting ls h r) (starting more h r)
-  where
-    or_assoc : (a b c : Option ℕ) → option_or a (option_or b c) ≡ option_or (option_or a b) c
-    or_assoc None b c = refl
-    or_assoc (Some x) b c = refl
-
-pub or_none : (a : Option ℕ) → option_or a None ≡ a
-or_none None = refl
-or_none (Some x) = refl
 
 -- lines that fix nothing
 pub starting_kept : (ls more : List Line) (h r : ℕ) → starting more h r ≡ None → starting (ls ++ more) h r ≡ starting ls h r

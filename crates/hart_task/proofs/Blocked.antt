@@ -3,6 +3,7 @@ use Rattle.std.proofs.Common.{ℕ, ◌+◌, ◌<◌, ◌≤◌, ◌≡◌, true,
 use Rattle.std.specs.Prelude.{is_none}
 use Rattle.std.specs.List.{AllByRecursion}
 use Rattle.std.specs.Option.{option_map_or}
+use Rattle.std.proofs.lemmas.Option.{cond_some, same_Some}
 use Rattle.rv_fields.specs.Class.{class_of}
 use Rattle.rv_fields.specs.Effect.{Effect}
 use Rattle.rv_fields.specs.Field.{field_of, masked, with_field}
@@ -31,10 +32,10 @@ use Rattle.hart_task.specs.Stepping.{fixed_in, StepTaken, bytes_fixed, late_regi
 use Rattle.hart_task.specs.Task.{script}
 use Rattle.hart_task.specs.Turn.{Turned, acted, acts, at_rest, done_turn, end_word, is_of, made_step, next_of, next_turn, rest_in_loop, step_turn, turned, turned_in, with_word}
 use Rattle.hart_task.proofs.Begins.{IsKnown, IsPlainWork, begins_is, is_pinned_ins, known, makeable_decodes, makeable_meets, pinned_word, plain_hart, plain_work, window_is}
-use Rattle.hart_task.proofs.Made.{Made, computes_on, here_is, if_some, jumps_on, late_for, made_was, nothing_in, number_after, zero_after}
+use Rattle.hart_task.proofs.Made.{Made, computes_on, here_is, jumps_on, late_for, made_was, nothing_in, number_after, zero_after}
 use Rattle.hart_task.proofs.Makes.{index_there}
 use Rattle.hart_task.proofs.Lined.{fixed_effects, runs_effects, touched_lines}
-use Rattle.hart_task.proofs.Plainly.{end_decoded, end_jump, some_same}
+use Rattle.hart_task.proofs.Plainly.{end_decoded, end_jump}
 
 -- ---- an event is its turn
 
@@ -125,7 +126,7 @@ makes_found : (work : Work) (h k : ℕ) (item : ScriptItem) (rest items : List S
     → made_step work (begun_state s item rest) (pinned_word item.request) heard None ≡ Some x
     → cond (is_none x.effect.trap) (Some (done_turn work s.count None x)) None ≡ Some t → MakesIt work h k item rest t
 makes_found work h k item rest items s heard t x at low few makeable does is =
-    let tests = if_some (is_none x.effect.trap) (done_turn work s.count None x) t is in
+    let tests = cond_some (is_none x.effect.trap) (done_turn work s.count None x) t is in
     let m = made_was work (begun_state s item rest) (pinned_word item.request) heard None x does in
     let after = behind_made work h k item rest items s heard x at low few makeable m in
     let turn : step_turn is_made None (Some k) x (record x.state { phase = between }) ≡ t =
@@ -212,7 +213,7 @@ ends_so work h k s heard x at m =
 ends_found : (work : Work) (h k : ℕ) (s : HartState) (heard : Heard) (t : Turned) (x : StepTaken) → IsBetween work h k [] s → made_step work s end_word heard None ≡ Some x
     → Some (step_turn is_last None None x (record x.state { phase = at_end })) ≡ Some t → EndsIt work h t
 ends_found work h k s heard t x at does is =
-    let turn : step_turn is_last None None x (record x.state { phase = at_end }) ≡ t = some_same _ t is in
+    let turn : step_turn is_last None None x (record x.state { phase = at_end }) ≡ t = same_Some _ t is in
     subst (EndsIt work h) turn (ends_so work h k s heard x at (made_was work s end_word heard None x does))
 
 ends_it : (work : Work) (h k : ℕ) (s : HartState) (heard : Heard) (t : Turned) → IsBetween work h k [] s → turned work s heard ≡ Some t → EndsIt work h t

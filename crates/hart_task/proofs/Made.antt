@@ -2,6 +2,7 @@
 use Rattle.std.proofs.Common.{ℕ, ◌+◌, ◌*◌, ◌%◌, ◌≡◌, Bool, true, false, cond, eqb, eqb-true, ◌&&◌, List, Option, Some, None, refl, sym, ap, subst, ◌∙◌}
 use Rattle.std.specs.Prelude.{is_none}
 use Rattle.std.proofs.lemmas.Bool.{and_parts}
+use Rattle.std.proofs.lemmas.Option.{cond_some, same_Some}
 use Rattle.rv_fields.specs.Attempt.{◌>>=◌}
 use Rattle.rv_fields.specs.Class.{class_of}
 use Rattle.rv_fields.specs.Decode.{Decoded, decoded}
@@ -24,7 +25,7 @@ use Rattle.hart_task.specs.State.{HartState, index_of}
 use Rattle.hart_task.specs.Stepping.{fixed_in, StepTaken, keeps_rules, late_registers, named_by, page_in, seen_of, stepped, taken_step, untouched, with_fixed, word_here}
 use Rattle.hart_task.specs.Turn.{made_at, made_step, with_word}
 use Rattle.hart_task.proofs.Going.{each_late, value_kept}
-use Rattle.hart_task.proofs.Plainly.{some_same, zero_kept}
+use Rattle.hart_task.proofs.Plainly.{zero_kept}
 
 -- ---- a step that was taken
 
@@ -39,10 +40,6 @@ pub record Taken (work : Work) (s : HartState) (heard : Heard) (wanted : Option 
   pub steps : step (seen_of work s heard) (record s.hart { x = fixed_in s.hart.x (late_for s here) }) ≡ Some r
   pub is : t ≡ taken_step (record s { steps = s.steps + 1 }) (seen_of work s heard) heard wanted (decoded here) (late_for s here) r
 
-pub if_some : {A : Type 0} (b : Bool) (a c : A) → cond b (Some a) None ≡ Some c → (b ≡ true) × (a ≡ c)
-if_some true a c e = (refl, cc)
-if_some false a c e = absurd cc
-
 pub taken : (work : Work) (s : HartState) (heard : Heard) (wanted : Option Wanted) (t : StepTaken) → stepped work s heard wanted ≡ Some t → Taken work s heard wanted t
 taken work s heard wanted t e =
     let here = found (word_here s (seen_of work s heard)) _ t e in
@@ -54,7 +51,7 @@ taken work s heard wanted t e =
       stands = here.1;
       r = r.0;
       steps = r.1;
-      is = sym (if_some (keeps_rules r.0.effect) (taken_step s1 (seen_of work s heard) heard wanted (decoded here.0) late r.0) t r.2).1;
+      is = sym (cond_some (keeps_rules r.0.effect) (taken_step s1 (seen_of work s heard) heard wanted (decoded here.0) late r.0) t r.2).1;
     }
 
 -- ---- of a word that is made
@@ -76,7 +73,7 @@ it_is n (Some m) e = ap Some (sym (eqb-true n m e))
 pub made_was : (work : Work) (s : HartState) (word : ℕ) (heard : Heard) (wanted : Option Wanted) (t : StepTaken) → made_step work s word heard wanted ≡ Some t → Made work s word heard wanted t
 made_was work s word heard wanted t e =
     let x = found (stepped work (with_word work s word) heard wanted) _ t e in
-    let tests = if_some (is_none (s.words (index_of work s)) && made_at work s word x.0.effect) x.0 t x.2 in
+    let tests = cond_some (is_none (s.words (index_of work s)) && made_at work s word x.0.effect) x.0 t x.2 in
     let each = and_parts (is_none (s.words (index_of work s))) (made_at work s word x.0.effect) tests.0 in
     let at = and_parts (is_it (code_start s.hart.number + 4 * index_of work s) x.0.effect.pa) (is_it word x.0.effect.word) each.1 in
     subst (Made work s word heard wanted) tests.1 (record {
@@ -161,7 +158,7 @@ executes_of seen hart word d c r does has row class = subst (λ q. Executes seen
 pub computes_on : (seen : Seen) (hart : Hart) (word : ℕ) (d : Decoded) (r : Stepped) → step seen hart ≡ Some r → r.effect.word ≡ Some word → decoded word ≡ Some d → class_of d.ins ≡ Computes → StepsOn hart r
 computes_on seen hart word d r does has row class =
     let x = executes_of seen hart word d Computes r does has row class in
-    subst (StepsOn hart) (sym x.is) (subst (λ q. StepsOn hart (stepped_by hart x.pa word x.k.ops.rd q)) (some_same _ x.o x.gives) (record { pc = refl; mode = refl; quiet = refl }))
+    subst (StepsOn hart) (sym x.is) (subst (λ q. StepsOn hart (stepped_by hart x.pa word x.k.ops.rd q)) (same_Some _ x.o x.gives) (record { pc = refl; mode = refl; quiet = refl }))
 
 -- a jump accesses nothing
 pub jumps_on : (seen : Seen) (hart : Hart) (word : ℕ) (d : Decoded) (r : Stepped) → step seen hart ≡ Some r → r.effect.word ≡ Some word → decoded word ≡ Some d → class_of d.ins ≡ Jumps → r.effect.access ≡ None
@@ -169,7 +166,7 @@ unfolding trap_taken
 jumps_on seen hart word d r does has row class =
     let x = executes_of seen hart word d Jumps r does has row class in
     ap (λ (q : Stepped). q.effect.access) x.is
-    ∙ subst (λ q. (stepped_by hart x.pa word x.k.ops.rd q).effect.access ≡ None) (some_same _ x.o x.gives) (jumps x.pa x.k (eqb (moved_by x.k.ops hart.pc % 4) 0))
+    ∙ subst (λ q. (stepped_by hart x.pa word x.k.ops.rd q).effect.access ≡ None) (same_Some _ x.o x.gives) (jumps x.pa x.k (eqb (moved_by x.k.ops hart.pc % 4) 0))
   where
     jumps : (pa : ℕ) (k : Decoded) (t : Bool) → (stepped_by hart pa word k.ops.rd (cond t (goes hart (Some (behind hart.pc)) (moved_by k.ops hart.pc)) (traps 0 (moved_by k.ops hart.pc)))).effect.access ≡ None
     jumps pa k true = refl

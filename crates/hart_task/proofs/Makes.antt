@@ -17,6 +17,7 @@ use Rattle.rv_fields.specs.Memory.{told, in_ram}
 use Rattle.rv_fields.specs.Step.{step, with_write}
 use Rattle.rv_fields.proofs.MoreTold.{more_told}
 use Rattle.rv_fields.proofs.Told.{told_word}
+use Rattle.rv_fields.proofs.Updated.{updated_at}
 use Rattle.choice_tree.specs.Draws.{Draws, next_word, skipped}
 use Rattle.region_plan.specs.Plan.{HartPlan, Work, no_hart, plan_of}
 use Rattle.boot_words.specs.Layout.{code_address, code_start, data_start, window_at, window_by, window_words}
@@ -222,9 +223,6 @@ index_there work s index window pc =
 
 pub index_is : (work : Work) (s : HartState) (index : ℕ) → MakesAt work s index → index_of work s ≡ index
 index_is work s index at = index_there work s index (plan_window work s.hart.number at.plain) at.pc
-
-updated_at : (f : ℕ → Option ℕ) (place : ℕ) (a : Option ℕ) → updated f place a place ≡ a
-updated_at f place a = rw (eq-eqb place place refl) refl
 
 stands_at : (work : Work) (s : HartState) (index word : ℕ) → MakesAt work s index → word < 2 ^ 32 → StandsAt work (with_word work s word) index word
 stands_at work s index word at fits = record {

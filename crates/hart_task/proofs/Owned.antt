@@ -9,6 +9,7 @@ use Rattle.rv_fields.specs.Hart.{Hart, Registers, updated}
 use Rattle.rv_fields.specs.Name.{Name}
 use Rattle.rv_fields.specs.declared.access.Accessed.{Accessed}
 use Rattle.rv_fields.proofs.Opened.{step_leaves}
+use Rattle.rv_fields.proofs.Options.{or_none}
 use Rattle.choice_tree.specs.Draws.{Draws, next_word, skipped}
 use Rattle.boot_words.specs.Layout.{shard_of}
 use Rattle.region_plan.specs.Plan.{Work}
@@ -23,7 +24,7 @@ use Rattle.hart_task.specs.OneRun.{RunsTo, all_lines}
 use Rattle.hart_task.specs.State.{HartState, start}
 use Rattle.hart_task.specs.Stepping.{StepTaken, bytes_fixed, fixed_in, late_registers, named_by, runs_of, seen_of, untouched}
 use Rattle.hart_task.specs.Turn.{acted, acts, with_word}
-use Rattle.hart_task.proofs.Begun.{or_none, starting_append}
+use Rattle.hart_task.proofs.Begun.{starting_append}
 use Rattle.hart_task.proofs.Blocked.{did}
 use Rattle.hart_task.proofs.Going.{EachFixed, each_late, none_before}
 use Rattle.hart_task.proofs.Lined.{touched_lines}

@@ -5,6 +5,7 @@ use Rattle.std.specs.Prelude.{IsSome, IsTrue, pos}
 use Rattle.std.specs.List.{AllByRecursion}
 use Rattle.std.proofs.lemmas.Bool.{ne_eqb}
 use Rattle.std.proofs.lemmas.Bool.Decides.{nat_tests}
+use Rattle.std.proofs.lemmas.Option.{none-some, same_Some}
 use Rattle.rv_fields.specs.declared.mode.Mode.TheVariants.{M}
 use Rattle.rv_fields.specs.declared.row_table.Ins.TheVariants.{Jal}
 use Rattle.rv_fields.specs.Class.{class_of}
@@ -88,12 +89,6 @@ end_steps hart a is_m tells aligned small is_zero =
 
 -- ---- registers of which less is told
 
-pub some_same : {A : Type 0} (a b : A) → Some a ≡ Some b → a ≡ b
-some_same a b e = cc
-
-none_some : {A : Type 0} (a : A) → None ≡ Some a → ⊥
-none_some a e = cc
-
 -- Over other registers that tell what the word reads, a plain step is the same.
 pub alike : (hart : Hart) (word : ℕ) (d : Decoded) (s : Stepped) (x : Registers) → hart.mode ≡ M → TellsOwn hart.pc word → decoded word ≡ Some d
     → s.effect ≡ plain_effect hart word s.effect.rd → step (word_seen hart.pc word) hart ≡ Some s
@@ -101,14 +96,14 @@ pub alike : (hart : Hart) (word : ℕ) (d : Decoded) (s : Stepped) (x : Register
     → step (word_seen hart.pc word) (with_registers x hart) ≡ Some (from_registers x s)
 alike hart word d s x is_m tells is plain does rs1 rs2 = enough_told seen hart s seen x does (record {
   fetch = λ w e. (
-      let none = some_same _ w (sym (fetched_bare seen hart is_m) ∙ e) in
+      let none = same_Some _ w (sym (fetched_bare seen hart is_m) ∙ e) in
       subst (λ (q : Walked). TellsEach seen.byte q.trail) none tt);
   word = λ pa w at has. (
-      let place = some_same hart.pc pa (sym (ap (λ (e : Effect). e.pa) plain) ∙ at) in
-      let same = some_same word w (sym (ap (λ (e : Effect). e.word) plain) ∙ has) in
+      let place = same_Some hart.pc pa (sym (ap (λ (e : Effect). e.pa) plain) ∙ at) in
+      let same = same_Some word w (sym (ap (λ (e : Effect). e.word) plain) ∙ has) in
       subst (λ p. told seen.byte p 4 ≡ Some (Some w)) place (subst (λ n. told seen.byte hart.pc 4 ≡ Some (Some n)) same tells));
   trail = subst (λ (trail : List Entry). TellsEach seen.byte trail) (sym (ap (λ (e : Effect). e.trail) plain)) tt;
-  read = λ a n has reads. absurd (none_some a (sym (ap (λ (e : Effect). e.access) plain) ∙ has));
+  read = λ a n has reads. absurd (none-some a (sym (ap (λ (e : Effect). e.access) plain) ∙ has));
   link = λ w k size extended r has row sc reserves b e. e;
   registers = λ w k has row. (
       let same : d ≡ k = of_word w k has row in
@@ -124,8 +119,8 @@ alike hart word d s x is_m tells is plain does rs1 rs2 = enough_told seen hart s
 
     of_word : (w : ℕ) (k : Decoded) → s.effect.word ≡ Some w → decoded w ≡ Some k → d ≡ k
     of_word w k has row =
-        let same = some_same word w (sym (ap (λ (e : Effect). e.word) plain) ∙ has) in
-        some_same d k (sym is ∙ ap decoded same ∙ row)
+        let same = same_Some word w (sym (ap (λ (e : Effect). e.word) plain) ∙ has) in
+        same_Some d k (sym is ∙ ap decoded same ∙ row)
 
 -- x0 is never written
 pub zero_kept : (x : Registers) (seen : Seen) (hart : Hart) (s : Stepped) → step seen hart ≡ Some s → with_write x s.effect.rd 0 ≡ x 0
@@ -175,7 +170,7 @@ plain_room room hart word p =
 pub plain_is : (hart : Hart) (word : ℕ) (s : Stepped) → StepsPlainly hart word → step (word_seen hart.pc word) hart ≡ Some s
     → s.effect ≡ plain_effect hart word s.effect.rd
 plain_is hart word s p does =
-    subst (λ (q : Stepped). q.effect ≡ plain_effect hart word q.effect.rd) (some_same p.stepped s (sym p.steps ∙ does)) p.plain
+    subst (λ (q : Stepped). q.effect ≡ plain_effect hart word q.effect.rd) (same_Some p.stepped s (sym p.steps ∙ does)) p.plain
 
 -- ---- whatever stands in the registers
 

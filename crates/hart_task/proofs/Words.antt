@@ -1,5 +1,5 @@
 -- The words of a hart's window are those that its lines tell to have been made.
-use Rattle.std.proofs.Common.{ℕ, zero, suc, ◌<◌, ◌≡◌, ◌⊎◌, Bool, true, false, cond, eqb, eqb-true, eq-eqb, List, [], ◌∷◌, ◌++◌, get_or, Option, Some, None, inl, inr, refl, sym, ap, subst, ◌∙◌, arith}
+use Rattle.std.proofs.Common.{ℕ, ◌≡◌, ◌⊎◌, Bool, true, false, cond, eqb, eqb-true, List, [], ◌∷◌, ◌++◌, Option, Some, None, inl, inr, refl, sym, ap, subst, ◌∙◌, arith}
 use Rattle.std.specs.Prelude.{is_some}
 use Rattle.std.specs.List.{Contains, filter_map}
 use Rattle.std.specs.Option.{option_map_or}
@@ -7,6 +7,8 @@ use Rattle.std.proofs.lemmas.List.Elements.{Contains-append_cases, Contains-appe
 use Rattle.rv_fields.specs.Effect.{Effect}
 use Rattle.rv_fields.specs.Hart.{Hart, updated}
 use Rattle.rv_fields.proofs.Opened.{step_leaves}
+use Rattle.rv_fields.proofs.Lists.{in_nothing, in_one}
+use Rattle.rv_fields.proofs.Updated.{updated_at}
 use Rattle.region_plan.specs.Plan.{Work}
 use Rattle.boot_words.specs.Layout.{code_address}
 use Rattle.trace_text.specs.Lines.{Line, done, effects_of, ending, fixed, found, given, made, picked, refused, request, settled, touched, weighed}
@@ -158,16 +160,6 @@ record Worded (h : ℕ) (first last : ℕ → Option ℕ) (told : List Effect) :
   each : (e : Effect) → Contains told e → IsMadeWord h last e
   others : (i v : ℕ) → last i ≡ Some v → (first i ≡ Some v) ⊎ IsTold h told i v
 
-pub in_nothing : {A : Type 0} (x : A) → Contains [] x → ⊥
-in_nothing x c = omega (arith, c.1)
-
-pub in_one : {A : Type 0} (y x : A) → Contains (y ∷ []) x → y ≡ x
-in_one y x c = at c.0 c.1 c.2
-  where
-    at : (k : ℕ) → k < 1 → get_or (y ∷ []) k x ≡ x → y ≡ x
-    at zero small e = e
-    at (suc k) small e = absurd (omega (arith, small))
-
 told_more : (h : ℕ) (one more : List Effect) (i v : ℕ) → IsTold h more i v → IsTold h (one ++ more) i v
 told_more h one more i v t = record { e = t.e; among = Contains-append_right one more t.e t.among; hart = t.hart; pa = t.pa; has = t.has }
 
@@ -177,7 +169,7 @@ worded h first next last one more (no_word none same) w =
 worded h first next last one more (a_word x index word told hart pa has free now) w = record {
   stay = λ i v is. w.stay i v (ap (λ (f : ℕ → Option ℕ). f i) now ∙ kept i v (eqb i index) refl is);
   each = λ e c. elim (Contains-append_cases one more e c) as (λ _. IsMadeWord h last e) [
-    | inl in_it ↦ subst (IsMadeWord h last) (in_one x e (subst (λ l. Contains l e) told in_it)) (record { hart = hart; index = index; word = word; pa = pa; has = has; stands = w.stay index word (ap (λ (f : ℕ → Option ℕ). f index) now ∙ itself) })
+    | inl in_it ↦ subst (IsMadeWord h last) (in_one x e (subst (λ l. Contains l e) told in_it)) (record { hart = hart; index = index; word = word; pa = pa; has = has; stands = w.stay index word (ap (λ (f : ℕ → Option ℕ). f index) now ∙ updated_at first index (Some word)) })
     | inr behind ↦ w.each e behind
   ];
   others = λ i v is. elim (w.others i v is) as (λ _. (first i ≡ Some v) ⊎ IsTold h (one ++ more) i v) [
@@ -189,9 +181,6 @@ worded h first next last one more (a_word x index word told hart pa has free now
     kept : (i v : ℕ) (t : Bool) → t ≡ eqb i index → first i ≡ Some v → cond t (Some word) (first i) ≡ Some v
     kept i v true e is = absurd (let no : None ≡ Some v = sym free ∙ ap first (sym (eqb-true i index (sym e))) ∙ is in cc)
     kept i v false e is = is
-
-    itself : updated first index (Some word) index ≡ Some word
-    itself = let same : eqb index index ≡ true = eq-eqb index index refl in ap (λ t. cond t (Some word) (first index)) same
 
     before : (i v : ℕ) (t : Bool) → t ≡ eqb i index → cond t (Some word) (first i) ≡ Some v → (first i ≡ Some v) ⊎ IsTold h (one ++ more) i v
     before i v true e is =

@@ -1,13 +1,8 @@
 ghost use Rattle.std.specs.Prelude.{◌≡◌, IsTrue};
 ghost use Rattle.rv_fields.specs.Memory.{in_ram};
 
+use rv_fields::in_ram;
 use rv_step::{Bus, PteAt, PteSource};
-
-/// The first address of RAM.
-const RAM_START: u64 = 0x8000_0000;
-
-/// The first address past RAM.
-const RAM_END: u64 = 0x9000_0000;
 
 /// The link of a hart to the 64 bytes of this number.
 #[derive(Clone, Copy)]
@@ -33,7 +28,7 @@ impl PteSource for OneWord {
     ghost entries = { λ b. entries_in (word_seen b.at b.word).byte };
 
     fn pte(&self, at: u64) -> PteAt {
-        if is_in_ram(at, 8) {
+        if in_ram(at, 8) {
             PteAt::Unfixed
         } else {
             PteAt::Absent
@@ -54,7 +49,7 @@ impl Bus for OneWord {
     }
 
     fn load(&self, pa: u64, size: u8) -> Option<u64> {
-        if !is_in_ram(pa, size) {
+        if !in_ram(pa, u64::from(size)) {
             return None;
         }
         let behind = u64::from(self.word) >> (8 * (pa - self.at));
@@ -81,11 +76,4 @@ impl Bus for OneWord {
     }
 
     ghost tells_entries = { λ b. refl };
-}
-
-/// Whether so many bytes from the address on lie in RAM.
-fn is_in_ram(at: u64, size: u8) -> bool
-    ensures { result ≡ in_ram at size }
-{
-    RAM_START <= at && at <= RAM_END && u64::from(size) <= RAM_END - at
 }

@@ -1,5 +1,5 @@
 -- Spans of addresses: those in RAM, and those that share no address.
-use Rattle.std.proofs.Common.{◌≡◌, ℕ, ◌+◌, ◌-◌, ◌<◌, ◌≤◌, true, eqb, leb, ◌&&◌, ◌⊎◌, inl, inr, IsTrue, arith}
+use Rattle.std.proofs.Common.{◌≡◌, ℕ, ◌+◌, ◌-◌, ◌<◌, ◌≤◌, true, eqb, leb, ◌⊎◌, inl, inr, IsTrue, arith}
 use Rattle.std.proofs.lemmas.Bool.{and_from, and_parts, eqb-true, le-leb, leb-true, or_cases, or_right}
 use Rattle.std.proofs.lemmas.Bool.Decides.{nat_tests}
 use Rattle.rv_fields.specs.Memory.{in_ram, ram_end, ram_start}
@@ -25,9 +25,6 @@ span_in_ram s low high = or_right _ _ (and_from _ _ (le-leb ram_start s.at low) 
 pub size_in_ram : (at size : ℕ) → (size ≡ 0) ⊎ ((ram_start ≤ at) × (at + size ≤ ram_end)) → size ≤ ram_end - ram_start
 size_in_ram at size (inl none) = omega arith
 size_in_ram at size (inr within) = omega (arith, within)
-
-pub ends_in_ram : (s : Span) → lies_in_ram s ≡ true → 0 < s.size → s.at + s.size ≤ ram_end
-ends_in_ram s ram some = grind (arith, nat_tests)
 
 -- ---- apart
 

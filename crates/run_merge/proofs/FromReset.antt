@@ -10,7 +10,7 @@ use Rattle.rv_fields.specs.Effect.{Effect}
 use Rattle.rv_fields.specs.Field.{field_of, masked}
 use Rattle.rv_fields.specs.Hart.{Hart}
 use Rattle.rv_fields.specs.Memory.{Seen}
-use Rattle.rv_fields.specs.Play.{Machine}
+use Rattle.rv_fields.specs.Play.{Machine, most_harts}
 use Rattle.rv_fields.specs.Status.{HasMode, mprv, satp_mode}
 use Rattle.region_plan.specs.Plan.{HartPlan, Work, hart_count, no_hart, plan_of}
 use Rattle.region_plan.specs.Rules.{IsPlainHart, KeepsRules}
@@ -68,7 +68,7 @@ plain_csr work h csr keeps = ap (λ (p : HartPlan). boot_csr p h csr) (plain_at 
       | Mhartid ↦ refl
     ]
 
-small_csr : (h : ℕ) (csr : Csr) → h < 16 → boot_csr no_hart h csr < 2 ^ 64
+small_csr : (h : ℕ) (csr : Csr) → h < most_harts → boot_csr no_hart h csr < 2 ^ 64
 small_csr h csr few = elim csr as (λ c. boot_csr no_hart h c < 2 ^ 64) [
   | Sstatus ↦ lit< tt
   | Stvec ↦ lit< tt

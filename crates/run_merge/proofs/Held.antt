@@ -6,6 +6,7 @@ use Rattle.std.specs.List.{AllByRecursion, flat_map, range_with_len}
 use Rattle.std.proofs.lemmas.Bool.Decides.{nat_tests}
 use Rattle.std.proofs.lemmas.List.{get_or_append_left, get_or-append_right}
 use Rattle.rv_fields.specs.Memory.{Bytes, in_ram, ram_end, ram_start, told}
+use Rattle.rv_fields.specs.Play.{most_harts}
 use Rattle.rv_fields.proofs.Told.{told_value, told_word}
 use Rattle.trace_text.specs.Lines.{Line, starting}
 use Rattle.region_plan.specs.Plan.{Work, hart_count, plan_of}
@@ -78,7 +79,7 @@ small_map : {A : Type 0} (f : A → ℕ) (bound : ℕ) (xs : List A) → ((x : A
 small_map f bound [] small = tt
 small_map f bound (x ∷ xs) small = (small x, small_map f bound xs small)
 
-pub boot_held : (work : Work) (lines : List Line) (memory : Bytes) (h : ℕ) → h < hart_count work → hart_count work ≤ 16 → Holds memory (image_pieces work lines)
+pub boot_held : (work : Work) (lines : List Line) (memory : Bytes) (h : ℕ) → h < hart_count work → hart_count work ≤ most_harts → Holds memory (image_pieces work lines)
     → AreLoadable (loads_of work lines h) → HoldsBoot (hart_count work) h (loads_of work lines h) memory
 boot_held work lines memory h member few holds ok =
     let words : length (word_bytes (dispatcher (hart_count work))) ≡ 32 = refl in

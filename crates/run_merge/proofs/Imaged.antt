@@ -5,6 +5,7 @@ use Rattle.std.specs.List.{Contains, filter_map}
 use Rattle.std.proofs.lemmas.List.Elements.{All-contains, All-from_recursion}
 use Rattle.std.proofs.lemmas.Option.{slice_get-get_or}
 use Rattle.rv_fields.specs.Effect.{Effect}
+use Rattle.rv_fields.specs.Play.{most_harts}
 use Rattle.trace_text.specs.Lines.{Line, starting}
 use Rattle.region_plan.specs.Plan.{Work, hart_count, plan_of}
 use Rattle.boot_words.specs.Boot.{dispatcher, boot_block, boot_csrs, boot_registers}
@@ -124,7 +125,7 @@ behind_startup work lines harts are =
 pub behind_handlers : (work : Work) (lines : List Line) (harts : List HartImage) → AreImagesOf work lines harts → LieFrom (m_handler_at + 0x2000) (code_pieces lines)
 behind_handlers work lines harts are = lie_within 0x84000000 (m_handler_at + 0x2000) (code_pieces lines) (code_from work lines harts are) (lit≤ tt)
 
-pub program_is_image : (work : Work) (lines : List Line) (harts : List HartImage) → AreImagesOf work lines harts → hart_count work ≤ 16
+pub program_is_image : (work : Work) (lines : List Line) (harts : List HartImage) → AreImagesOf work lines harts → hart_count work ≤ most_harts
     → (a : ℕ) → memory_of (program work harts) a ≡ image work lines a
 program_is_image work lines harts are most a =
     let handlers : Stretch = record { at = m_handler_at; bytes = laid m_handler_at handler_pieces; size = 0x2000; flags = 5 } in

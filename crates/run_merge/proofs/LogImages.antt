@@ -4,9 +4,10 @@ use Rattle.std.specs.Prelude.{option_map, slice_get, unwrap_or}
 use Rattle.std.specs.List.{AllByRecursion, Contains, filter_map}
 use Rattle.std.specs.Option.{option_map_or}
 use Rattle.std.proofs.lemmas.List.{length-map}
-use Rattle.std.proofs.lemmas.List.Elements.{Contains-append_cases, Contains-append_right, Contains-push_cases}
+use Rattle.std.proofs.lemmas.List.Elements.{Contains-append_cases, Contains-append_right}
 use Rattle.std.proofs.lemmas.Option.{slice_get-map, slice_get_within}
 use Rattle.rv_fields.specs.Effect.{Effect}
+use Rattle.rv_fields.proofs.Lists.{in_one}
 use Rattle.region_plan.specs.Plan.{Work, hart_count}
 use Rattle.region_plan.specs.Rules.{KeepsRules}
 use Rattle.trace_text.specs.Lines.{Line, done, ending, fixed, found, given, hart_of, lines_of, made, picked, refused, request, settled, starting, touched, weighed}
@@ -22,9 +23,6 @@ use Rattle.run_merge.specs.Run.{log_image}
 use Rattle.run_merge.proofs.Merged.{all_own, hart_lines, log_at, log_events, starting_is}
 
 -- ---- members of lists
-
-in_one : {A : Type 0} (y x : A) → Contains (y ∷ []) x → y ≡ x
-in_one y x c = elim (Contains-push_cases [] y x c) [ inl none ↦ absurd (omega (arith, none.1)) | inr same ↦ same ]
 
 first_of : {A : Type 0} (x y : A) (xs : List A) → x ≡ y → Contains (x ∷ xs) y
 first_of x y xs same = (0, omega arith, same)

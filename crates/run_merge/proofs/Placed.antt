@@ -1,10 +1,11 @@
 -- Pieces of memory that are laid out one behind another, and the bytes of pieces that aren't.
-use Rattle.std.proofs.Common.{ℕ, ◌+◌, ◌-◌, ◌<◌, ◌≤◌, ◌≡◌, ◌⊎◌, List, [], ◌∷◌, ◌++◌, length, replicate, get_or, Option, Some, None, refl, sym, ap, ◌∙◌, arith, inl, inr, length-append}
+use Rattle.std.proofs.Common.{ℕ, ◌+◌, ◌-◌, ◌<◌, ◌≤◌, ◌≡◌, ◌⊎◌, List, [], ◌∷◌, ◌++◌, length, replicate, get_or, Some, None, refl, sym, ap, ◌∙◌, arith, inl, inr, length-append}
 use Rattle.std.specs.Prelude.{unwrap_or}
 use Rattle.std.specs.Option.{option_or}
 use Rattle.std.proofs.lemmas.List.{get_or_append_left, get_or-replicate, length-replicate, get_or-append_right}
 use Rattle.std.proofs.lemmas.Bool.{cases_lt}
 use Rattle.std.proofs.lemmas.Bool.Decides.{nat_tests}
+use Rattle.rv_fields.proofs.Options.{or_assoc, or_none}
 use Rattle.ram_image.specs.Pieces.{Piece, piece_byte, byte_in, filled, laid}
 use Rattle.ram_image.specs.Segments.{Stretch, stretch_byte, memory_of}
 
@@ -124,11 +125,7 @@ length-laid from (p ∷ ps) to h =
 
 pub byte_in-append : (ps qs : List Piece) (a : ℕ) → byte_in (ps ++ qs) a ≡ option_or (byte_in ps a) (byte_in qs a)
 byte_in-append [] qs a = refl
-byte_in-append (p ∷ ps) qs a = ap (option_or (piece_byte p a)) (byte_in-append ps qs a) ∙ or_or (piece_byte p a) (byte_in ps a) (byte_in qs a)
-  where
-    or_or : (x y z : Option ℕ) → option_or x (option_or y z) ≡ option_or (option_or x y) z
-    or_or None y z = refl
-    or_or (Some b) y z = refl
+byte_in-append (p ∷ ps) qs a = ap (option_or (piece_byte p a)) (byte_in-append ps qs a) ∙ or_assoc (piece_byte p a) (byte_in ps a) (byte_in qs a)
 
 -- the first pieces that have a byte there count
 pub byte_before : (ps qs : List Piece) (a b : ℕ) → byte_in ps a ≡ Some b → byte_in (ps ++ qs) a ≡ Some b
@@ -168,10 +165,6 @@ memory_joins at size flags ps ss qs a h k e = elim (cases_lt a at) [
     outside : (a < at) ⊎ (at + size ≤ a) → memory_of (s ∷ ss) a ≡ filled (ps ++ qs) a
     outside o = ap (λ b. unwrap_or b (memory_of ss a)) (stretch_outside s a o) ∙ e
         ∙ sym (ap (λ b. unwrap_or b 0) (byte_in-append ps qs a ∙ ap (λ b. option_or b (byte_in qs a)) (none_of o)))
-
-    or_none : (o : Option ℕ) → option_or o None ≡ o
-    or_none None = refl
-    or_none (Some b) = refl
 
     within : at ≤ a → a < at + size → memory_of (s ∷ ss) a ≡ filled (ps ++ qs) a
     within behind inside =

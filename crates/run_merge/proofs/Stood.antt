@@ -10,6 +10,7 @@ use Rattle.std.proofs.lemmas.Option.{slice_get_within}
 use Rattle.rv_fields.specs.declared.mode.Mode.TheVariants.{S, M}
 use Rattle.rv_fields.specs.Effect.{Effect}
 use Rattle.rv_fields.specs.Memory.{Bytes, in_ram, ram_end, ram_start, told}
+use Rattle.rv_fields.specs.Play.{most_harts}
 use Rattle.rv_fields.proofs.Told.{told_word}
 use Rattle.trace_text.specs.Lines.{Line, starting}
 use Rattle.region_plan.specs.Plan.{Work, hart_count}
@@ -72,13 +73,13 @@ code_byte work lines harts are e made j small = by (byte_in (code_pieces lines) 
         ∙ ap (λ w. w / 256 ^ of.place % 256) same.0 ∙ ap (λ k. effect_word e / 256 ^ k % 256) same.1)
 
 -- what comes before the code
-front_laid : (work : Work) (initial : Table) → hart_count work ≤ 16 → AreLaid dispatcher_at (startup_pieces work initial ++ handler_pieces) (m_handler_at + 0x2000)
+front_laid : (work : Work) (initial : Table) → hart_count work ≤ most_harts → AreLaid dispatcher_at (startup_pieces work initial ++ handler_pieces) (m_handler_at + 0x2000)
 front_laid work initial most =
     laid-append dispatcher_at (startup_pieces work initial) (dispatcher_at + startup_size work) handler_pieces (m_handler_at + 0x2000) (startup_laid work initial)
     (laid_within m_handler_at (dispatcher_at + startup_size work) handler_pieces (m_handler_at + 0x2000) (m_handler_at + 0x2000) handlers_laid (omega arith) (lit≤ tt))
 
 -- each made word stands at its physical address
-pub word_stands : (work : Work) (lines : List Line) (harts : List HartImage) (memory : Bytes) → AreImagesOf work lines harts → hart_count work ≤ 16
+pub word_stands : (work : Work) (lines : List Line) (harts : List HartImage) (memory : Bytes) → AreImagesOf work lines harts → hart_count work ≤ most_harts
     → Holds memory (image_pieces work lines) → (e : Effect) → Contains (filter_map made_by lines) e → WordAt memory (effect_pa e) (effect_word e)
 word_stands work lines harts memory are most holds e made = λ j small.
     holds (effect_pa e + j) (effect_word e / 256 ^ j % 256)
@@ -86,19 +87,19 @@ word_stands work lines harts memory are most holds e made = λ j small.
     (front_laid work (starting lines) most) (behind_handlers work lines harts are) (code_byte work lines harts are e made j small))
 
 -- the same of all of them
-pub words_stand : (work : Work) (lines : List Line) (harts : List HartImage) (memory : Bytes) → AreImagesOf work lines harts → hart_count work ≤ 16
+pub words_stand : (work : Work) (lines : List Line) (harts : List HartImage) (memory : Bytes) → AreImagesOf work lines harts → hart_count work ≤ most_harts
     → Holds memory (image_pieces work lines) → AllByRecursion (λ (e : Effect). WordAt memory (effect_pa e) (effect_word e)) (filter_map made_by lines)
 words_stand work lines harts memory are most holds =
     recursion_from_All (λ (e : Effect). WordAt memory (effect_pa e) (effect_word e)) (filter_map made_by lines)
     (λ k e within. word_stands work lines harts memory are most holds (get_or (filter_map made_by lines) k e) (Contains-get_or (filter_map made_by lines) k e within))
 
 -- a made word lies in RAM
-pub word_in_ram : (work : Work) (lines : List Line) (harts : List HartImage) → AreImagesOf work lines harts → hart_count work ≤ 16
+pub word_in_ram : (work : Work) (lines : List Line) (harts : List HartImage) → AreImagesOf work lines harts → hart_count work ≤ most_harts
     → (e : Effect) → Contains (filter_map made_by lines) e → in_ram (effect_pa e) 4 ≡ true
 word_in_ram work lines harts are most e made =
     let at : IsPlaced harts e = placed work lines harts are e made in
     let fits : at.index < 1024 = omega (arith, are.room e.hart at.hart at.among, slice_get_within at.hart.words at.index (effect_word e) at.word) in
-    let few : e.hart < 16 = omega (arith, are.count, slice_get_within harts e.hart at.hart at.among) in
+    let few : e.hart < most_harts = omega (arith, are.count, slice_get_within harts e.hart at.hart at.among) in
     let from : ram_start ≤ effect_pa e = omega (arith, at.at) in
     let to : effect_pa e + 4 ≤ ram_end = omega (arith, at.at) in
     grind (arith, nat_tests)
@@ -119,7 +120,7 @@ words_byte at words index word j is small =
 pub alone : (p : Piece) (a b : ℕ) → piece_byte p a ≡ Some b → byte_in (p ∷ []) a ≡ Some b
 alone p a b is = rw is refl
 
-handlers_stand : (work : Work) (lines : List Line) (memory : Bytes) (a b : ℕ) → hart_count work ≤ 16 → Holds memory (image_pieces work lines)
+handlers_stand : (work : Work) (lines : List Line) (memory : Bytes) (a b : ℕ) → hart_count work ≤ most_harts → Holds memory (image_pieces work lines)
     → byte_in handler_pieces a ≡ Some b → memory a ≡ Some b
 handlers_stand work lines memory a b most holds is =
     let behind : byte_in (startup_pieces work (starting lines) ++ handler_pieces) a ≡ Some b =
@@ -135,14 +136,14 @@ m_piece = record { at = m_handler_at; bytes = word_bytes (handler M) }
 abbrev s_piece : Piece
 s_piece = record { at = s_handler_at; bytes = word_bytes (handler S) }
 
-pub m_handler_stands : (work : Work) (lines : List Line) (memory : Bytes) → hart_count work ≤ 16 → Holds memory (image_pieces work lines)
+pub m_handler_stands : (work : Work) (lines : List Line) (memory : Bytes) → hart_count work ≤ most_harts → Holds memory (image_pieces work lines)
     → (index word : ℕ) → slice_get (handler M) index ≡ Some word → WordAt memory (m_handler_at + 4 * index) word
 m_handler_stands work lines memory most holds index word is = λ j small.
     handlers_stand work lines memory (m_handler_at + 4 * index + j) (word / 256 ^ j % 256) most holds
     (byte_before (m_piece ∷ []) (s_piece ∷ []) (m_handler_at + 4 * index + j) (word / 256 ^ j % 256)
     (alone m_piece (m_handler_at + 4 * index + j) (word / 256 ^ j % 256) (words_byte m_handler_at (handler M) index word j is small)))
 
-pub s_handler_stands : (work : Work) (lines : List Line) (memory : Bytes) → hart_count work ≤ 16 → Holds memory (image_pieces work lines)
+pub s_handler_stands : (work : Work) (lines : List Line) (memory : Bytes) → hart_count work ≤ most_harts → Holds memory (image_pieces work lines)
     → (index word : ℕ) → slice_get (handler S) index ≡ Some word → WordAt memory (s_handler_at + 4 * index) word
 s_handler_stands work lines memory most holds index word is = λ j small.
     handlers_stand work lines memory (s_handler_at + 4 * index + j) (word / 256 ^ j % 256) most holds

@@ -2,6 +2,7 @@
 use Rattle.std.proofs.Common.{ℕ, ◌+◌, ◌-◌, ◌*◌, ◌/◌, ◌%◌, ◌<◌, ◌≡◌, Bool, true, false, cond, eqb, eqb-true, eq-eqb, List, [], Option, Some, None, refl, sym, ap, subst, ◌∙◌, length, arith}
 use Rattle.std.specs.Prelude.{is_none, ◌&&◌, option_map}
 use Rattle.std.specs.Option.{option_or}
+use Rattle.std.proofs.lemmas.Option.{cond_some}
 use Rattle.rv_fields.specs.Hart.{Hart, updated}
 use Rattle.rv_fields.specs.Memory.{Seen, after_access, granule}
 use Rattle.rv_fields.specs.Play.{Machine}
@@ -24,7 +25,7 @@ use Rattle.hart_task.specs.Turn.{acted, made_at, made_step, with_word}
 use Rattle.hart_task.proofs.Going.{Over, Was, was}
 use Rattle.hart_task.proofs.Held.{EntriesStand, WordsStand, within}
 use Rattle.hart_task.proofs.Lined.{AllHave, WordHeld, step_access, step_runs}
-use Rattle.hart_task.proofs.Made.{Made, if_some, made_was}
+use Rattle.hart_task.proofs.Made.{Made, made_was}
 use Rattle.hart_task.proofs.Standing.{Stands, WordStands}
 use Rattle.hart_task.proofs.Viewed.{From}
 use Rattle.run_merge.proofs.Settled.{space_stands}
@@ -59,7 +60,7 @@ before_made work begin first s heard t hart over stands from =
     let at : ℕ = code_start s.hart.number + 4 * index_of work s in
     let m : Made work s from.0 heard from.1 t = made_was work s from.0 heard from.1 t from.2 in
     let x = found (stepped work (with_word work s from.0) heard from.1) _ t from.2 in
-    let did = if_some (is_none (s.words (index_of work s)) && made_at work s from.0 x.0.effect) x.0 t x.2 in
+    let did = cond_some (is_none (s.words (index_of work s)) && made_at work s from.0 x.0.effect) x.0 t x.2 in
     let held : WordStands first (Some at) (Some from.0) = subst (λ q. WordStands first q (Some from.0)) m.pa (subst (WordStands first t.effect.pa) m.word stands) in
     record {
       state = with_word work s from.0;

@@ -1,7 +1,7 @@
 -- One run is justified.
-use Rattle.std.proofs.Common.{◌⊎◌, ℕ, ◌<◌, ◌≡◌, Bool, true, false, cond, eq-eqb, List, [], ◌∷◌, ◌++◌, Option, Some, None, inl, inr, refl, sym, ap, subst, ◌∙◌, length, filter}
+use Rattle.std.proofs.Common.{◌⊎◌, ℕ, ◌<◌, ◌≡◌, Bool, true, false, cond, eq-eqb, List, [], ◌∷◌, ◌++◌, inl, inr, refl, sym, ap, subst, ◌∙◌, length, filter}
 use Rattle.std.specs.List.{AllByRecursion}
-use Rattle.rv_fields.specs.Effect.{Effect}
+use Rattle.std.proofs.lemmas.List.Elements.{filter_map-append}
 use Rattle.rv_fields.specs.Play.{Machine, Plays, after_step}
 use Rattle.rv_fields.specs.Step.{Stepped}
 use Rattle.choice_tree.specs.Forest.{Forest}
@@ -44,14 +44,6 @@ behind {S} names legal after n states e es runs i small = ((runs i small).0, of 
     of true end run = run.1
     of false end run = run
 
-effects_joined : (ls rest : List Line) → effects_of (ls ++ rest) ≡ effects_of ls ++ effects_of rest
-effects_joined [] rest = refl
-effects_joined (l ∷ ls) rest = of (effect_of l) refl (effects_joined ls rest)
-  where
-    of : (m : Option Effect) → m ≡ effect_of l → effects_of (ls ++ rest) ≡ effects_of ls ++ effects_of rest → effects_of ((l ∷ ls) ++ rest) ≡ effects_of (l ∷ ls) ++ effects_of rest
-    of None is e = rw (sym is) e
-    of (Some x) is e = rw (sym is) (ap (λ q. x ∷ q) e)
-
 all_split : (m : Machine) (ls rest : List Line) → AllHave m (ls ++ rest) → AllHave m ls × AllHave m rest
 all_split m [] rest all = (tt, all)
 all_split m (l ∷ ls) rest all = let more = all_split m ls rest all.1 in ((all.0, more.0), more.1)
@@ -84,10 +76,10 @@ playing work n first (e ∷ es) m harts spaces shards handlers planned members h
         → ((next : Machine) → Beside work n first next (harts_after work harts e) (spaces_after work spaces e) (shards_after shards e) → DoesAll next (effects_of (all_lines es)))
         → DoesAll m (effects_of (e.lines ++ all_lines es))
     of (inl quiet) more =
-        let all : effects_of (e.lines ++ all_lines es) ≡ effects_of (all_lines es) = effects_joined e.lines (all_lines es) ∙ ap (λ q. q ++ effects_of (all_lines es)) quiet.none in
+        let all : effects_of (e.lines ++ all_lines es) ≡ effects_of (all_lines es) = filter_map-append effect_of e.lines (all_lines es) ∙ ap (λ q. q ++ effects_of (all_lines es)) quiet.none in
         subst (DoesAll m) (sym all) (more m quiet.beside)
     of (inr does) more =
-        let all : effects_of (e.lines ++ all_lines es) ≡ does.effect ∷ effects_of (all_lines es) = effects_joined e.lines (all_lines es) ∙ ap (λ q. q ++ effects_of (all_lines es)) does.one in
+        let all : effects_of (e.lines ++ all_lines es) ≡ does.effect ∷ effects_of (all_lines es) = filter_map-append effect_of e.lines (all_lines es) ∙ ap (λ q. q ++ effects_of (all_lines es)) does.one in
         let s : Stepped = record { effect = does.effect; hart = does.next } in
         let rest = more (after_step m e.hart s) does.beside in
         subst (DoesAll m) (sym all)

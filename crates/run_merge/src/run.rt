@@ -1,6 +1,6 @@
 ghost use Rattle.std.specs.Prelude.{◌≡◌, ◌≤◌, length};
 ghost use Rattle.std.specs.List.{All};
-ghost use Rattle.region_plan.specs.Rules.{most_harts};
+ghost use Rattle.rv_fields.specs.Play.{most_harts};
 ghost use Rattle.run_merge.specs.declared.run.HartProgram.{HartProgram};
 
 use region_plan::Plan;

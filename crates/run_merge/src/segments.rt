@@ -2,7 +2,7 @@ ghost use Rattle.std.specs.Prelude.{◌≡◌, ℕ, ◌+◌, ◌-◌, ◌*◌, �
 ghost use Rattle.ram_image.specs.Pieces.{laid};
 ghost use Rattle.ram_image.specs.Segments.{Stretch, stretch_of, stretches, are_sound, memory_of};
 ghost use Rattle.region_plan.specs.Plan.{Work, hart_count};
-ghost use Rattle.region_plan.specs.Rules.{most_harts};
+ghost use Rattle.rv_fields.specs.Play.{most_harts};
 ghost use Rattle.region_plan.specs.Views.{IsPlannedBy};
 ghost use Rattle.boot_words.specs.Layout.{boot_block_at, code_start, dispatcher_at, m_handler_at};
 ghost use Rattle.run_merge.specs.Image.{AreImagesOf, boot_pieces, handler_pieces, image, initial_in, program, startup_pieces, value_bytes, word_bytes};

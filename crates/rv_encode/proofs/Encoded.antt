@@ -9,6 +9,7 @@ use Rattle.rv_fields.specs.declared.row_table.Ops.{Ops}
 use Rattle.rv_fields.specs.RowTable.{form_of, value_of, Agrees}
 use Rattle.rv_fields.specs.Decode.{Decoded, decoded, ins_at, fields_of}
 use Rattle.rv_fields.proofs.OneRow.{one_row, value_masked}
+use Rattle.rv_fields.proofs.Options.{found_map}
 use Rattle.rv_encode.specs.declared.field.Field.{Field}
 use Rattle.rv_encode.specs.declared.field.Field.TheVariants.{Rd, Rs1, Rs2, Imm, AqRl}
 use Rattle.rv_encode.specs.Fitting.{all_fields, fits, misfit}
@@ -20,10 +21,6 @@ use Rattle.rv_encode.proofs.Packing.{spells, read_fits, packs_again}
 unmapped : {A B : Type 0} (f : A → B) (o : Option A) → option_map f o ≡ None → o ≡ None
 unmapped f None e = refl
 unmapped f (Some x) e = absurd cc
-
-mapped : {A B : Type 0} (f : A → B) (o : Option A) (y : B) → option_map f o ≡ Some y → (x : A) × (o ≡ Some x) × (f x ≡ y)
-mapped f None y e = absurd cc
-mapped f (Some x) y e = (x, refl, cc)
 
 fails : {X : Type 0} (b : Bool) (y : X) (others : Option X) → cond b (Some y) others ≡ None → (b ≡ false) × (others ≡ None)
 fails true y others e = absurd cc
@@ -69,7 +66,7 @@ pub decoded_is_encoded : (word : ℕ) (ins : Ins) (ops : Ops) → word < 2 ^ 32 
     → (misfit (form_of ins) ops ≡ None) × (packed (form_of ins) (value_of ins) ops ≡ word)
 decoded_is_encoded word ins ops small e =
     let read : Ins → Decoded = λ i. record { ins = i; ops = fields_of (form_of i) word } in
-    let found = mapped read (ins_at word) (record { ins = ins; ops = ops }) e in
+    let found = found_map read (ins_at word) (record { ins = ins; ops = ops }) e in
     let i = found.0 in
     let agrees : Agrees word i = (one_row word i).0 found.1 in
     let fit = no_misfit (form_of i) (fields_of (form_of i) word) (read_fits (form_of i) word) in

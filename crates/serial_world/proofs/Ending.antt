@@ -11,7 +11,7 @@ use Rattle.hart_task.specs.OneRun.{RunsTo}
 use Rattle.hart_task.specs.State.{HartState, Phase, between}
 use Rattle.hart_task.specs.Task.{Stands, TaskSeen, finished, phase_seen, state_of}
 use Rattle.hart_task.specs.Turn.{acts, is_of, turned_in}
-use Rattle.serial_world.proofs.Numbering.{events_more}
+use Rattle.hart_task.proofs.Turning.{events_more}
 
 -- behind a run the line that follows is legal
 runs_last : {S L : Type 0} (legal : S → L → Type 0) (after : S → L → S) (old mid new : S) (lines : List L) (line : L) → Runs legal after old lines mid

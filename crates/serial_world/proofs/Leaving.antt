@@ -4,6 +4,7 @@ use Rattle.std.specs.List.{AllByRecursion}
 use Rattle.std.specs.Prelude.{slice_get}
 use Rattle.std.proofs.lemmas.List.{length-map}
 use Rattle.std.proofs.lemmas.Option.{slice_get_within}
+use Rattle.rv_fields.proofs.Lists.{each_at}
 use Rattle.region_plan.specs.Plan.{Work, hart_count}
 use Rattle.region_plan.specs.Rules.{KeepsRules}
 use Rattle.world_face.specs.Events.{Event}
@@ -62,10 +63,5 @@ logs_left work seed next all events keeps runs ended = record {
         let own : IsLogOf work t.draws.seed t.hart.number t.log = log_of work t keeps its.task end in
         subst (IsLogOf work seed h) f.2 (subst (λ n. IsLogOf work seed n t.log) its.number (subst (λ s. IsLogOf work s t.hart.number t.log) its.drawn_by own))
 
-all_at : {A : Type 0} (P : A → Type 0) (xs : List A) (i : ℕ) (x : A) → AllByRecursion P xs → slice_get xs i ≡ Some x → P x
-all_at P [] i x all at = cc
-all_at P (y ∷ ys) zero x all at = let same : y ≡ x = cc in subst P same all.0
-all_at P (y ∷ ys) (suc i) x all at = all_at P ys i x all.1 at
-
 pub finished_at : (all : List TaskSeen) (i : ℕ) (t : TaskSeen) → AllByRecursion (λ (t : TaskSeen). finished t.phase ≡ true) all → slice_get all i ≡ Some t → t.phase ≡ tasks.Finished
-finished_at all i t ended at = is_at_end t.phase (all_at (λ (t : TaskSeen). finished t.phase ≡ true) all i t ended at)
+finished_at all i t ended at = is_at_end t.phase (each_at (λ (t : TaskSeen). finished t.phase ≡ true) all i t ended at)

@@ -7,6 +7,7 @@ use Rattle.std.proofs.lemmas.List.Elements.{filter-append}
 use Rattle.world_face.specs.Events.{Event, Placed, is_of_hart}
 use Rattle.hart_task.specs.Log.{events_of}
 use Rattle.hart_task.specs.Logs.{numbered}
+use Rattle.hart_task.proofs.Turning.{events_more}
 use Rattle.serial_world.specs.World.{AreInTurn, in_places, placed_of}
 
 abbrev pub placed : ℕ → Event → Placed
@@ -19,10 +20,6 @@ events_numbered place (e ∷ es) = ap (λ l. e ∷ l) (events_numbered (place + 
 length_numbered : (place : ℕ) (events : List Event) → length (numbered place events) ≡ length events
 length_numbered place [] = refl
 length_numbered place (e ∷ es) = ap suc (length_numbered (place + 1) es)
-
-pub events_more : (all : List Placed) (p : Placed) → events_of (all ++ p ∷ []) ≡ events_of all ++ p.event ∷ []
-events_more [] p = refl
-events_more (q ∷ all) p = ap (λ l. q.event ∷ l) (events_more all p)
 
 numbered_more : (place : ℕ) (events : List Event) (e : Event) → numbered place (events ++ e ∷ []) ≡ numbered place events ++ placed (place + length events) e ∷ []
 numbered_more place [] e = let at : place ≡ place + 0 = omega arith in ap (λ n. placed n e ∷ []) at

@@ -1,8 +1,9 @@
 -- All harts before their first events.
-use Rattle.std.proofs.Common.{ℕ, zero, suc, ◌+◌, ◌*◌, ◌≤◌, ◌≡◌, ◌⊎◌, inl, inr, List, [], ◌∷◌, ◌++◌, Some, ap, arith, length, map, refl, subst, sym, ◌∙◌}
+use Rattle.std.proofs.Common.{ℕ, suc, ◌+◌, ◌*◌, ◌≤◌, ◌≡◌, ◌⊎◌, inl, inr, List, [], ◌∷◌, ◌++◌, Some, ap, arith, length, map, refl, subst, sym, ◌∙◌}
 use Rattle.std.specs.Prelude.{slice_get, sum_by}
 use Rattle.std.proofs.lemmas.List.{length-append, length-map, map-append}
 use Rattle.std.proofs.lemmas.List.Sums.{sum_by-cons}
+use Rattle.rv_fields.proofs.Lists.{get_of_more}
 use Rattle.region_plan.specs.Plan.{Work, hart_count}
 use Rattle.region_plan.specs.Rules.{KeepsRules}
 use Rattle.hart_task.specs.declared.task.HartTask.{HartTask}
@@ -33,12 +34,6 @@ all_few work (t ∷ all) few =
 
 -- ---- the tasks so far
 
-get_more : {A : Type 0} (xs : List A) (y : A) (i : ℕ) (x : A) → slice_get (xs ++ y ∷ []) i ≡ Some x → (slice_get xs i ≡ Some x) ⊎ ((i ≡ length xs) × (y ≡ x))
-get_more [] y zero x at = let same : y ≡ x = cc in inr (refl, same)
-get_more [] y (suc i) x at = cc
-get_more (z ∷ zs) y zero x at = inl at
-get_more (z ∷ zs) y (suc i) x at = elim (get_more zs y i x at) [ inl there ↦ inl there | inr here ↦ inr (ap suc here.0, here.1) ]
-
 -- so many harts stand before their first events
 pub record Begun (work : Work) (seed : ℕ) (tasks : List HartTask) (count : ℕ) : Type 0 where
   pub many : length tasks ≡ count
@@ -51,7 +46,7 @@ pub one_begun : (work : Work) (seed h : ℕ) (tasks : List HartTask) (t : HartTa
     → Begun work seed (tasks ++ t ∷ []) (h + 1)
 one_begun work seed h tasks t begun stands number same_seed none = record {
   many = let more = length-append tasks (t ∷ []) in omega (arith, more, begun.many);
-  harts = λ k s at. hart k s (get_more (map task_seen tasks) (task_seen t) k s (ap (λ l. slice_get l k) (sym (map-append task_seen tasks (t ∷ []))) ∙ at));
+  harts = λ k s at. hart k s (get_of_more (map task_seen tasks) (task_seen t) k s (ap (λ l. slice_get l k) (sym (map-append task_seen tasks (t ∷ []))) ∙ at));
 }
   where
     hart : (k : ℕ) (s : TaskSeen) → (slice_get (map task_seen tasks) k ≡ Some s) ⊎ ((k ≡ length (map task_seen tasks)) × (task_seen t ≡ s)) → IsHartOf work seed [] k s

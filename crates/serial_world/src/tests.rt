@@ -1,4 +1,5 @@
 ghost use Rattle.std.specs.Prelude.{◌≤◌, length, IfOk};
+ghost use Rattle.rv_fields.specs.Play.{most_harts};
 ghost use Rattle.region_plan.specs.Plan.{no_hart};
 ghost use Rattle.region_plan.specs.Rules.{IsMakeable, IsPlainHart, KeepsRules};
 ghost use Rattle.region_plan.specs.Views.{items_seen, work_of};
@@ -7,7 +8,7 @@ ghost use Rattle.hart_task.specs.Asking.{item_seen};
 use super::*;
 use hart_task::HartLog;
 use region_plan::{HartPlan, InsChoice, Item, Job, Pins, Plan, Request};
-use rv_fields::{Ins, Mode};
+use rv_fields::{Ins, MOST_HARTS, Mode};
 use std::alloc::{AllocError, Global};
 use std::process::Abort;
 use std::test::Fail;
@@ -40,7 +41,7 @@ fn template_of(alloc: Global, requests: u8) -> Result<Vec<Item>, AllocError>
 
 /// A job of harts that have so many requests each.
 fn job_of(alloc: Global, requests: &[u8]) -> Result<Job, AllocError>
-    requires { (1 ≤ length requests.now) × (length requests.now ≤ 16) }
+    requires { (1 ≤ length requests.now) × (length requests.now ≤ most_harts) }
     ensures { IfOk result (λ job. KeepsRules (work_of job)) }
 {
     let mut harts = Vec::new(alloc);
@@ -71,7 +72,7 @@ fn assert_list(
     schedule: &[u8],
     places: &[&[u64]],
 ) -> Result<(), Fail>
-    requires { (1 ≤ length requests.now) × (length requests.now ≤ 16) }
+    requires { (1 ≤ length requests.now) × (length requests.now ≤ most_harts) }
 {
     let job = job_of(alloc, requests)?;
     let logs = run_list(alloc, &job, 7, schedule)?;
@@ -122,9 +123,9 @@ fn draws_the_turns_of_three_harts(rt: HostRuntime) -> Result<(), Fail> {
 
 #[test]
 fn draws_the_turns_of_all_harts(rt: HostRuntime) -> Result<(), Fail> {
-    let job = job_of(rt.alloc(), &[1; 16])?;
+    let job = job_of(rt.alloc(), &[1; MOST_HARTS])?;
     let logs = run_drawn(rt.alloc(), &job, 7)?;
-    assert_eq!(rt; logs.len(), 16);
+    assert_eq!(rt; logs.len(), MOST_HARTS);
     assert_places(&rt, &logs[0], &[9, 10, 14]);
     assert_places(&rt, &logs[4], &[0, 4, 6]);
     assert_places(&rt, &logs[15], &[1, 5, 41]);

@@ -6,10 +6,10 @@ use Rattle.std.specs.Fmt.{decimal}
 use Rattle.std.specs.Option.{option_map_or, option_or, unwrap_or}
 use Rattle.std.proofs.lemmas.Bool.{lt-ltb}
 use Rattle.std.proofs.lemmas.Bool.Decides.{eqb_tells, nat_tests}
-use Rattle.rv_fields.specs.Play.{IsReset, Plays}
+use Rattle.rv_fields.specs.Play.{IsReset, Plays, most_harts}
 use Rattle.rv_fields.specs.Ranges.{AreBytes}
 use Rattle.rv_fields.proofs.Ranges.{in_range_at_reset}
-use Rattle.std.proofs.lemmas.Option.{slice_get_past}
+use Rattle.std.proofs.lemmas.Option.{slice_get_past, none-some}
 use Rattle.rv_fields.specs.Memory.{whole}
 use Rattle.rv_step.specs.Views.{hart_seen}
 use Rattle.rv_machine.specs.declared.machine.Machine as code
@@ -32,7 +32,6 @@ use Rattle.trace_replay.specs.declared.verdict.LineField.TheVariants.{Harts}
 use Rattle.trace_replay.specs.Comparing.{Difference, difference, harts_differ}
 use Rattle.trace_replay.specs.Judging.{IsInRange}
 use Rattle.trace_replay.specs.Passes.{AreFiles, Passes, PassesFrom, harts_at, machine_at}
-use Rattle.std.proofs.lemmas.Option.{none-some}
 use Rattle.elf_file.specs.declared.fault.ElfFault.{ElfFault}
 use Rattle.elf_file.specs.Faults.{fault_of}
 use Rattle.elf_file.proofs.Judging.{unloaded_with_fault}
@@ -63,7 +62,7 @@ module _ (reset : Reset) (small : IsInRange reset) (harts : ℕ) where
   pub at_reset : (elf : List ℕ) → IsAtReset harts (load elf) (machine_at harts reset elf)
   at_reset elf = record { bytes = λ a. refl; links = λ h g. refl; resets = is_reset }
 
-  in_range : harts ≤ 16 → (elf : List ℕ) → AreBytes (load elf) → MachineInRange harts (machine_at harts reset elf)
+  in_range : harts ≤ most_harts → (elf : List ℕ) → AreBytes (load elf) → MachineInRange harts (machine_at harts reset elf)
   in_range few elf bytes = record {
     bytes = bytes;
     numbers = λ h member. (is_reset h member).number;

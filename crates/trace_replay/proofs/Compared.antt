@@ -4,7 +4,9 @@ use Rattle.std.specs.List.{cons_option, flat_map}
 use Rattle.std.specs.Option.{option_map_or, option_or}
 use Rattle.std.specs.Fmt.{decimal}
 use Rattle.std.proofs.lemmas.Grind.{flat_map-append}
+use Rattle.std.proofs.lemmas.List.Elements.{filter_map-append}
 use Rattle.rv_fields.specs.Effect.{Effect}
+use Rattle.rv_fields.proofs.Options.{or_none}
 use Rattle.trace_text.specs.Lines.{Line, effect_of, effects_of}
 use Rattle.trace_text.specs.Reading.{HasRead, Unread, unread}
 use Rattle.trace_text.specs.declared.trace_lines.TraceLines.{TraceLines}
@@ -41,14 +43,6 @@ effects_counted (s ∷ steps) = ap suc (effects_counted steps)
 -- lines without a step
 pub no_steps : (n : ℕ) (lines : List Line) → effects_of lines ≡ [] → steps_at n lines ≡ []
 no_steps n lines none = nothing (steps_at n lines) (sym (effects_counted (steps_at n lines)) ∙ ap length (effects_of_steps n lines ∙ none))
-
-pub effects_on : (xs ys : List Line) → effects_of (xs ++ ys) ≡ effects_of xs ++ effects_of ys
-effects_on [] ys = refl
-effects_on (x ∷ xs) ys = of (effect_of x) (effects_on xs ys)
-  where
-    of : (m : Option Effect) → effects_of (xs ++ ys) ≡ effects_of xs ++ effects_of ys → cons_option m (effects_of (xs ++ ys)) ≡ cons_option m (effects_of xs) ++ effects_of ys
-    of None same = same
-    of (Some e) same = ap (λ q. e ∷ q) same
 
 -- no line has no text
 pub no_lines : (lines : List Line) → [] ≡ flat_map line_text lines → lines ≡ []
@@ -126,7 +120,7 @@ compared_step start behind old mid new skipped line told found n first is none s
     let both : HasRead (skipped ++ line ∷ []) (unread old.lines) (unread new.lines) = reads_on skips reads in
     let one : effects_of (line ∷ []) ≡ told ∷ [] = ap (λ m. cons_option m []) tells in
     let more : effects_of (is.read ++ (skipped ++ line ∷ [])) ≡ effects_of is.read ++ told ∷ [] =
-    effects_on is.read (skipped ++ line ∷ []) ∙ ap (λ es. effects_of is.read ++ es) (effects_on skipped (line ∷ []) ∙ ap (λ es. es ++ effects_of (line ∷ [])) no_step_in ∙ one) in
+    filter_map-append effect_of is.read (skipped ++ line ∷ []) ∙ ap (λ es. effects_of is.read ++ es) (filter_map-append effect_of skipped (line ∷ []) ∙ ap (λ es. es ++ effects_of (line ∷ [])) no_step_in ∙ one) in
     record {
       read = is.read ++ (skipped ++ line ∷ []);
       has_read = reads_on is.has_read both;
@@ -147,7 +141,7 @@ compared_end start behind old mid new skipped found n first is none skips no_ste
     let both : HasRead (skipped ++ []) (unread old.lines) (unread new.lines) = reads_on skips reads in
     let all : HasRead skipped (unread old.lines) (unread new.lines) = subst (λ ls. HasRead ls (unread old.lines) (unread new.lines)) (append-nil skipped) both in
     let more : effects_of (is.read ++ skipped) ≡ effects_of is.read =
-    effects_on is.read skipped ∙ ap (λ es. effects_of is.read ++ es) no_step_in ∙ append-nil (effects_of is.read) in
+    filter_map-append effect_of is.read skipped ∙ ap (λ es. effects_of is.read ++ es) no_step_in ∙ append-nil (effects_of is.read) in
     record {
       read = is.read ++ skipped;
       has_read = reads_on is.has_read all;
@@ -163,7 +157,7 @@ pub skips_on : (old mid new : Comparison) (skipped : List Line) (line : Line) �
     → HasRead (line ∷ []) (unread mid.lines) (unread new.lines) → effect_of line ≡ None
     → (lines : List Line) × HasRead lines (unread old.lines) (unread new.lines) × (effects_of lines ≡ [])
 skips_on old mid new skipped line skips none reads tells =
-    (skipped ++ line ∷ [], reads_on skips reads, effects_on skipped (line ∷ []) ∙ ap (λ es. es ++ effects_of (line ∷ [])) none ∙ ap (λ m. cons_option m []) tells)
+    (skipped ++ line ∷ [], reads_on skips reads, filter_map-append effect_of skipped (line ∷ []) ∙ ap (λ es. es ++ effects_of (line ∷ [])) none ∙ ap (λ m. cons_option m []) tells)
 
 -- ---- the end
 
@@ -237,7 +231,7 @@ remains_on start behind old mid new line is reads steps first lines counted diff
     record {
       read = is.read ++ line ∷ [];
       has_read = reads_on is.has_read all;
-      steps_are = omega (arith, counted, steps, is.steps_are, ap length (effects_on is.read (line ∷ [])), length-append (effects_of is.read) (effects_of (line ∷ [])));
+      steps_are = omega (arith, counted, steps, is.steps_are, ap length (filter_map-append effect_of is.read (line ∷ [])), length-append (effects_of is.read) (effects_of (line ∷ [])));
       first_is = subst (Remains start (is.read ++ line ∷ []) (unread new.lines).text behind)
           (sym (differs n here ∙ ap (λ o. option_or (option_map difference_seen o) (option_map (unmade n) (effect_of line))) first))
           (of (effect_of line) refl);
@@ -252,10 +246,6 @@ remains_on start behind old mid new line is reads steps first lines counted diff
     of : (m : Option Effect) → m ≡ effect_of line → Remains start (is.read ++ line ∷ []) (unread new.lines).text behind (option_or before (option_map (unmade (start.number + length is.read)) m))
     of None none = subst (Remains start (is.read ++ line ∷ []) (unread new.lines).text behind) (sym (or_none before))
         (line_read start is.read behind line (unread old.lines).text (unread new.lines).text text before is.first_is (sym none))
-      where
-        or_none : (o : Option Difference) → option_or o None ≡ o
-        or_none None = refl
-        or_none (Some d) = refl
     of (Some e) some = lacking_read start is.read behind line (unread old.lines).text (unread new.lines).text text before e (start.number + length is.read) is.first_is (sym some) refl
 
 pub begins_to_remain : (start : Unread) (behind : List Effect) (c : Comparison) → IsCompared start behind c → IsRemaining start behind c

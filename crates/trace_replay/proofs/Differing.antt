@@ -1,5 +1,5 @@
 -- No difference is found exactly where the harts boot and do what is told.
-use Rattle.std.proofs.Common.{ℕ, zero, suc, ◌+◌, ◌<◌, ◌≤◌, ◌≡◌, ◌^◌, Bool, true, false, ◌&&◌, cond, eqb, eqb-true, eq-eqb, List, [], ◌∷◌, length, map, Option, Some, None, refl, sym, ap, subst, ◌∙◌, arith, inl, inr, min, ◌≢◌, length-take}
+use Rattle.std.proofs.Common.{ℕ, zero, suc, ◌+◌, ◌<◌, ◌≤◌, ◌≡◌, ◌^◌, Bool, true, false, cond, eqb, eqb-true, eq-eqb, List, [], ◌∷◌, length, map, Option, Some, None, refl, sym, ap, subst, ◌∙◌, arith, inl, inr, min, ◌≢◌, length-take, ◌-◌}
 use Rattle.std.specs.Prelude.{is_none, slice_get, take}
 use Rattle.std.specs.List.{AllByRecursion, cons_option}
 use Rattle.std.specs.Option.{option_map_or, option_or}
@@ -7,6 +7,7 @@ use Rattle.std.specs.Fmt.{decimal}
 use Rattle.std.specs.Str.{bytes_eq}
 use Rattle.std.proofs.lemmas.Bool.Decides.{eqb_tells}
 use Rattle.std.proofs.lemmas.Slice.Eq.{bytes_eq-Decides}
+use Rattle.std.proofs.lemmas.Bool.{and_parts}
 use Rattle.rv_fields.specs.declared.trap.Trap.{Trap}
 use Rattle.rv_fields.specs.Effect.{Effect}
 use Rattle.trace_text.specs.Lines.{Line, effect_of, effects_of}
@@ -109,12 +110,6 @@ never_more (e ∷ effects) = of (is_none e.trap) (never_more effects)
     of : (b : Bool) → untrapped effects ≤ length effects → cond b (suc (untrapped effects)) 0 ≤ suc (length effects)
     of true less = omega arith
     of false less = omega arith
-
--- the two parts of a test
-parts : (a b : Bool) → (a && b) ≡ true → (a ≡ true) × (b ≡ true)
-parts true true is = (refl, refl)
-parts true false is = absurd cc
-parts false b is = absurd cc
 
 -- the test that a step executes mret
 abbrev executes_mret : Option Effect → Bool

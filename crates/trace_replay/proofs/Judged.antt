@@ -3,7 +3,7 @@ use Rattle.std.proofs.Common.{ℕ, ◌<◌, ◌≤◌, ◌≡◌, ◌^◌, Bool,
 use Rattle.std.specs.Prelude.{MatchOption, nat_le}
 use Rattle.std.specs.List.{AllByRecursion}
 use Rattle.rv_fields.specs.Effect.{Effect}
-use Rattle.rv_fields.specs.Play.{Machine, Plays}
+use Rattle.rv_fields.specs.Play.{Machine, Plays, most_harts}
 use Rattle.trace_text.specs.Lines.{Line, effects_of, ending, found, made}
 use Rattle.trace_text.specs.Traces.{IsLine, IsStep, IsTrace}
 use Rattle.boot_words.specs.Booting.{boot_steps}
@@ -47,7 +47,7 @@ behind_spelled harts before (e ∷ effects) all =
     of false rest = rest
 
 -- What is said here of a play is what `Passes` asks of the play from one choice of resets.
-pub passes_where_none : (harts : ℕ) (order : List ℕ) (lines : List Line) (effects : List Effect) (m end : Machine) → harts ≤ 16
+pub passes_where_none : (harts : ℕ) (order : List ℕ) (lines : List Line) (effects : List Effect) (m end : Machine) → harts ≤ most_harts
     → AllByRecursion (λ h. h < harts) order → IsTrace harts lines → MachineInRange harts m → Plays m order effects end
     → difference harts harts lines effects ≡ None → PlaysAsTold harts order (effects_of lines) m
 passes_where_none harts order lines effects m end few named trace range plays none =

@@ -2,6 +2,7 @@
 use Rattle.std.proofs.Common.{ℕ, ◌<◌, ◌≡◌, ◌^◌, true, cond, eqb, ◌≢◌, List, [], ◌∷◌, Option, Some, None, IfSome, refl, sym, ap, subst, ◌∙◌, arith, inl, inr}
 use Rattle.std.specs.List.{AllByRecursion}
 use Rattle.std.proofs.lemmas.Bool.Decides.{eqb_tells, nat_tests}
+use Rattle.std.proofs.lemmas.Option.{same_Some}
 use Rattle.rv_fields.specs.declared.access.Accessed.{Accessed}
 use Rattle.rv_fields.specs.declared.mode.Mode.TheVariants.{U}
 use Rattle.rv_fields.specs.declared.trap.Trap.{Trap}
@@ -116,10 +117,7 @@ one_play [] (e ∷ effects) others m end stop first second = absurd first
 one_play (h ∷ order) [] others m end stop first second = absurd first
 one_play (h ∷ order) (e ∷ effects) [] m end stop first second = absurd second
 one_play (h ∷ order) (e ∷ effects) (o ∷ others) m end stop first second =
-    let same : first.0 ≡ second.0 = one first.0 second.0 (sym first.1 ∙ second.1) in
+    let same : first.0 ≡ second.0 = same_Some first.0 second.0 (sym first.1 ∙ second.1) in
     let head : e ≡ o = sym first.2 ∙ ap (λ (s : Stepped). s.effect) same ∙ second.2 in
     let rest = one_play order effects others (after_step m h second.0) end stop (subst (λ s. Plays (after_step m h s) order effects end) same first.3) second.3 in
     ap (λ q. q ∷ effects) head ∙ ap (λ q. o ∷ q) rest
-  where
-    one : (a b : Stepped) → Some a ≡ Some b → a ≡ b
-    one a b e = cc

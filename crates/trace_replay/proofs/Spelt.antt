@@ -2,6 +2,7 @@
 use Rattle.std.proofs.Common.{ℕ, ◌<◌, ◌≤◌, ◌≡◌, ◌^◌, List, [], length, get_or, Option, Some, None, IfSome, sym, ap, ◌∙◌}
 use Rattle.std.specs.List.{AllByRecursion}
 use Rattle.std.specs.Fmt.{decimal, digits}
+use Rattle.std.proofs.lemmas.Option.{same_Some}
 use Rattle.rv_fields.specs.declared.access.Accessed.{Accessed}
 use Rattle.rv_fields.specs.declared.trap.Trap.{Trap}
 use Rattle.rv_fields.specs.Effect.{Effect, Entry}
@@ -26,10 +27,7 @@ pub record CanSpell (harts : ℕ) (e : Effect) : Type 0 where
 
 one_to_one : {A : Type 0} (text : A → List ℕ) (reading : List ℕ → Option A) (Fits : A → Type 0) → Spells text reading Fits
     → (a b : A) → Fits a → Fits b → text a ≡ text b → a ≡ b
-one_to_one {A} text reading Fits spells a b fits_a fits_b same = of a b (sym (spells.again a fits_a) ∙ ap reading same ∙ spells.again b fits_b)
-  where
-    of : (a b : A) → Some a ≡ Some b → a ≡ b
-    of a b e = cc
+one_to_one text reading Fits spells a b fits_a fits_b same = same_Some a b (sym (spells.again a fits_a) ∙ ap reading same ∙ spells.again b fits_b)
 
 -- ---- the fields
 

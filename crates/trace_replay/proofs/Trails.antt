@@ -1,5 +1,6 @@
 -- What a step tells of a walk has at most three entries, and a trap is handled in mode S or M.
 use Rattle.std.proofs.Common.{ℕ, zero, suc, ◌*◌, ◌/◌, ◌%◌, ◌≤◌, ◌≡◌, ◌≢◌, ◌&&◌, Bool, true, false, cond, eqb, not, List, [], length, Option, Some, None, subst, arith}
+use Rattle.std.proofs.lemmas.Option.{same_Some}
 use Rattle.rv_fields.specs.declared.access.Access.{Access}
 use Rattle.rv_fields.specs.declared.access.AccessKind.{AccessKind}
 use Rattle.rv_fields.specs.declared.access.AccessKind.TheVariants.{Load, Store, Lr, Sc, Amo}
@@ -169,11 +170,8 @@ taken_told : (hart : Hart) (pa word : Option ℕ) (cause tval : ℕ) (trail : Li
 unfolding trap_taken
 taken_told hart pa word cause tval trail few = record {
   trail = few;
-  handled = λ t is. subst (λ (q : Trap). q.to ≢ U) (one _ t is) (handled_by hart.csrs hart.mode cause);
+  handled = λ t is. subst (λ (q : Trap). q.to ≢ U) (same_Some _ t is) (handled_by hart.csrs hart.mode cause);
 }
-  where
-    one : (a b : Trap) → Some a ≡ Some b → a ≡ b
-    one a b e = cc
 
 stepped_told : (hart : Hart) (pa word rd : ℕ) (o : Outcome) → IsShort o → IsTold (stepped_by hart pa word rd o)
 stepped_told hart pa word rd (retires done) few = record { trail = few; handled = λ t is. absurd cc }

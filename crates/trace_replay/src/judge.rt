@@ -2,6 +2,7 @@
 ghost use Rattle.std.specs.Prelude.{◌≡◌, ◌≢◌, ◌≤◌, ◌<◌, ◌+◌, ◌∷◌, ◌++◌, [], All, List, length, IfOk, IfErr, IfSome, OnOk, option_map};
 ghost use Rattle.rv_fields.specs.declared.mode.Mode.TheVariants.{U};
 ghost use Rattle.rv_fields.specs.Effect.{Effect};
+ghost use Rattle.rv_fields.specs.Play.{most_harts};
 ghost use Rattle.rv_step.specs.Views.{effect_seen};
 ghost use Rattle.rv_machine.specs.Views.{machine_seen};
 ghost use Rattle.trace_text.specs.Lines.{Line, effects_of};
@@ -13,13 +14,10 @@ ghost use Rattle.trace_replay.specs.Verdicts.{IsOf};
 use crate::boot::Boot;
 use crate::comparison::{Comparison, Difference};
 use crate::verdict::{LineField, ReplayFault, Verdict};
-use rv_fields::NoMemory;
+use rv_fields::{MOST_HARTS, NoMemory};
 use rv_machine::{Machine, Stepped};
 use std::alloc::Global;
 use trace_text::TraceLines;
-
-/// No more harts than this.
-pub(crate) const MOST_HARTS: usize = 16;
 
 /// Harts that are booting, and the trace beside what they do behind their boots.
 #[derive(Drop)]
@@ -49,7 +47,7 @@ impl<'a> Judge<'a> {
         machine: &mut Machine,
         order: &[u8],
     ) -> Result<(), ReplayFault>
-        requires few { length machine.old.harts.items ≤ 16 }
+        requires few { length machine.old.harts.items ≤ most_harts }
         requires named { All (λ hart. hart < length machine.old.harts.items) order.now }
         ensures played { OnOk result ((start : Unread) → HasJudged start [] self.old → HasPlayed start (machine_seen machine.old) order.now self.new) }
         ensures fault { IfErr result (λ fault. (start : Unread) → HasJudged start [] self.old → IsTraceFault (unread_fault start) fault) }
@@ -63,7 +61,7 @@ impl<'a> Judge<'a> {
 
     /// Takes a step of the hart: one of its boot, or one to compare.
     fn take(&mut self, alloc: Global, hart: u8, stepped: &Stepped) -> Result<(), ReplayFault>
-        requires hart { hart < 16 }
+        requires hart { hart < most_harts }
         requires short { stepped.now.trail.len ≤ 4 }
         requires handled { IfSome stepped.now.trap (λ trap. trap.to ≢ U) }
         ensures judged { OnOk result ((start : Unread) (effects : List Effect) → HasJudged start effects self.old
@@ -87,7 +85,7 @@ impl<'a> Judge<'a> {
         harts: u8,
         told_harts: u8,
     ) -> Result<Verdict, NoMemory>
-        requires few { harts ≤ 16 }
+        requires few { harts ≤ most_harts }
         ensures { IfOk result (λ verdict. (lines : List Line) (effects : List Effect) → AreBoots self.entry.boots effects
             → self.entry.comparison.steps ≡ length (effects_of lines)
             → option_map difference_seen self.entry.comparison.first ≡ steps_differ (2 + length lines) (steps_at 2 lines) (behind_boots [] effects)
@@ -109,7 +107,7 @@ impl<'a> Judge<'a> {
 
     /// The first of so many harts whose boot doesn't pass, with its steps before the first that trapped.
     fn boot_difference(&self, alloc: Global, harts: u8) -> Result<Option<Difference>, NoMemory>
-        requires few { harts ≤ 16 }
+        requires few { harts ≤ most_harts }
         ensures { IfOk result (λ first. (effects : List Effect) → AreBoots self.now.boots effects
             → option_map difference_seen first ≡ boots_differ 0 harts effects) }
     {

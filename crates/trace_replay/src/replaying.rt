@@ -1,5 +1,6 @@
 ghost use Rattle.std.specs.Prelude.{◌≡◌, ◌≤◌, ◌<◌, ◌↔◌, ℕ, List, length, IfOk, IfErr, MatchResult, None, Some, true, false};
 ghost use Rattle.rv_fields.specs.Memory.{whole};
+ghost use Rattle.rv_fields.specs.Play.{most_harts};
 ghost use Rattle.rv_machine.specs.Views.{machine_seen, reset_hart};
 ghost use Rattle.trace_replay.specs.Judging.{IsInRange};
 ghost use Rattle.ram_image.specs.Ram.{memory};
@@ -12,7 +13,7 @@ ghost use Rattle.elf_file.specs.Loading as loading;
 ghost use Rattle.trace_replay.specs.Passes.{Passes, PassesFrom};
 ghost use Rattle.trace_replay.specs.Verdicts.{IsFaultOf, IsTraceFault, IsVerdict, agrees};
 
-use crate::judge::{Judge, MOST_HARTS};
+use crate::judge::Judge;
 use crate::verdict::{ReplayFault, Verdict};
 use elf_file::read_elf;
 use ram_image::Ram;
@@ -71,7 +72,7 @@ fn order_of(alloc: Global, order: &[u8]) -> Result<(u8, Vec<u8>), ReplayFault>
 
 /// So many harts at the reset, over the RAM.
 fn machine_of(alloc: Global, ram: Ram, harts: u8, reset: Reset) -> Result<Machine, NoMemory>
-    requires few { harts ≤ 16 }
+    requires few { harts ≤ most_harts }
     ensures memory { IfOk result (λ m. (machine_seen m).seen ≡ record { byte = whole (memory ram); link = λ h g. Some false }) }
     ensures harts { IfOk result (λ m. (h : ℕ) → h < harts → (machine_seen m).harts h ≡ reset_hart h reset) }
     ensures count { IfOk result (λ m. length m.harts.items ≡ harts) }

@@ -3,11 +3,12 @@ use Rattle.std.proofs.Common.{◌≡◌, ℕ, ◌≤◌, List, [], ◌∷◌, �
 use Rattle.std.specs.List.{AllByRecursion, flat_map}
 use Rattle.std.proofs.lemmas.List.{append_cancel_right}
 use Rattle.std.proofs.lemmas.Option.{same_Some}
+use Rattle.rv_fields.specs.Play.{most_harts}
 use Rattle.trace_text.specs.Lines.{Line}
 use Rattle.trace_text.specs.Text.{line_body, line_text, trace_text}
 use Rattle.trace_text.specs.Forms.{lines_of_text}
 use Rattle.trace_fields.specs.Fields.{fields_of}
-use Rattle.trace_text.specs.Orders.{number_in, most_harts}
+use Rattle.trace_text.specs.Orders.{number_in}
 use Rattle.trace_fields.specs.Readings.{all_of}
 use Rattle.trace_text.specs.Traces.{IsLine, IsTrace}
 use Rattle.trace_fields.proofs.Agains.{all_again}

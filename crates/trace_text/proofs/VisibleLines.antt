@@ -7,12 +7,13 @@ use Rattle.std.specs.Fmt.{decimal}
 use Rattle.std.proofs.lemmas.Bool.{le-ltb, not_from_false}
 use Rattle.std.proofs.lemmas.List.Elements.{All-from_recursion}
 use Rattle.std.proofs.lemmas.List.Splits.{slice_split_at}
+use Rattle.rv_fields.specs.Play.{most_harts}
 use Rattle.trace_fields.specs.Text.{space_byte, joined_by}
 use Rattle.trace_text.specs.Text.{newline, header_fields, header_text}
 use Rattle.trace_fields.specs.Numbers.{decimal_below}
 use Rattle.trace_text.specs.Forms.{lines_of_text}
 use Rattle.trace_fields.specs.Fields.{fields_of, first_wrong, is_decimal}
-use Rattle.trace_text.specs.Orders.{header_tests, number_in, most_harts}
+use Rattle.trace_text.specs.Orders.{header_tests, number_in}
 use Rattle.trace_fields.proofs.Joins.{Lacks, lacks, all_weaken, joined_all, parts_again}
 use Rattle.trace_fields.proofs.WordBytes.{IsVisible}
 use Rattle.trace_fields.proofs.Backs.{value_told}

@@ -2,12 +2,9 @@
 use Rattle.std.specs.Prelude.{ℕ, ◌+◌, ◌-◌, ◌<◌, ◌≤◌, List, [], ◌∷◌, length, drop, replicate, codes, Option, Some, None, All, get_or}
 use Rattle.std.specs.List.{flat_map}
 use Rattle.std.specs.Str.Parse.{digits_value}
+use Rattle.rv_fields.specs.Play.{most_harts}
 use Rattle.trace_fields.specs.Fields.{Test, Place, fields_of, is_word, is_decimal, is_another_hart}
 use Rattle.trace_text.specs.Forms.{Form, fault_of, lines_of_text}
-
--- so many harts at most
-abbrev pub most_harts : ℕ
-most_harts = 16
 
 -- so many steps at most
 abbrev pub most_steps : ℕ

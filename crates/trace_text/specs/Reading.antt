@@ -1,6 +1,7 @@
 -- What the readers of orders and traces may answer.
 use Rattle.std.specs.Prelude.{◌≡◌, ℕ, ◌+◌, ◌≤◌, List, [], ◌∷◌, ◌++◌, length, codes, Option, Some, None, MatchOption, MatchResult, Result}
 use Rattle.std.specs.List.{flat_map, AllByRecursion}
+use Rattle.rv_fields.specs.Play.{most_harts}
 use Rattle.trace_fields.specs.declared.fault.LineFault.{LineFault}
 use Rattle.trace_fields.specs.declared.fault.LineFault.TheVariants.{At, Memory}
 use Rattle.trace_text.specs.declared.line.Line as code
@@ -8,7 +9,7 @@ use Rattle.trace_text.specs.declared.trace_lines.TraceLines.{TraceLines}
 use Rattle.trace_fields.specs.Fields.{Place}
 use Rattle.trace_text.specs.Forms.{fault_from, lines_of_text}
 use Rattle.trace_text.specs.Lines.{Line}
-use Rattle.trace_text.specs.Orders.{order_form, turns, most_harts}
+use Rattle.trace_text.specs.Orders.{order_form, turns}
 use Rattle.trace_text.specs.Text.{header_text, line_text}
 use Rattle.trace_text.specs.Traces.{IsLine, trace_fault, trace_form}
 use Rattle.trace_text.specs.Views.{line_seen}

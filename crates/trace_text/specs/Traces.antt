@@ -3,12 +3,13 @@ use Rattle.std.specs.Prelude.{ℕ, ◌^◌, ◌<◌, ◌≤◌, false, List, [],
 use Rattle.std.specs.List.{AllByRecursion}
 use Rattle.std.specs.Str.{bytes_eq}
 use Rattle.rv_fields.specs.Effect.{Effect}
+use Rattle.rv_fields.specs.Play.{most_harts}
 use Rattle.trace_fields.specs.Bounds.{count_bound, hex_bound, register_bound, space_bound, most_entries}
 use Rattle.trace_text.specs.Lines.{Line, hart_of, request, picked, weighed, fixed, given, settled, touched, made, found, ending, done, refused}
 use Rattle.trace_fields.specs.Numbers.{decimal_below, word_of}
 use Rattle.trace_fields.specs.Fields.{Test, Place, is_word, tells}
 use Rattle.trace_text.specs.Forms.{Form, fault_of}
-use Rattle.trace_text.specs.Orders.{header_tests, number_in, most_harts}
+use Rattle.trace_text.specs.Orders.{header_tests, number_in}
 use Rattle.trace_fields.specs.Readings.{preambles, kind_of, cause_of, name_of, count_of, hex_of, register_of, space_of, number_of, path_of, bytes_of, optional, write_of, access_of, trail_of, trap_of}
 use Rattle.trace_fields.specs.Ranges.{IsAnyOf, IsName, IsWrite, IsAccess, IsEntry, IsTrap, IsPath, AreBytes}
 

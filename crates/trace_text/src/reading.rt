@@ -1,15 +1,14 @@
 //! The first line of a file, and what readers of lines share.
 ghost use Rattle.std.specs.Prelude.{◌≡◌, ◌≤◌, ◌+◌, None, MatchResult};
 ghost use Rattle.std.specs.Option.{unwrap_or};
+ghost use Rattle.rv_fields.specs.Play.{most_harts};
 ghost use Rattle.trace_fields.specs.Fields.{fields_of, first_wrong};
 ghost use Rattle.trace_text.specs.Text.{header_fields};
 ghost use Rattle.trace_text.specs.Orders.{header_tests, number_in};
 ghost use Rattle.trace_fields.specs.Taking.{IsFaultIn};
 
+use rv_fields::MOST_HARTS;
 use trace_fields::{Fields, LineFault};
-
-/// No more harts than this.
-const MOST_HARTS: usize = 16;
 
 /// The number of fields of the first line.
 pub(crate) const HEADER_FIELDS: u32 = 3;
@@ -19,7 +18,7 @@ pub(crate) fn header(text: &[u8], kind: &str) -> Result<u8, LineFault>
     ensures { let fields = fields_of text.now in
         MatchResult result
         (λ harts. (first_wrong 1 (header_tests kind.now) fields ≡ None) × (harts ≡ number_in fields 2)
-        × (fields ≡ header_fields kind.now harts) × (1 ≤ harts) × (harts ≤ 16))
+        × (fields ≡ header_fields kind.now harts) × (1 ≤ harts) × (harts ≤ most_harts))
         (λ fault. IsFaultIn (header_tests kind.now) 1 fields fault) }
 {
     let mut fields = Fields::of(1, text);

@@ -1,4 +1,5 @@
 ghost use Rattle.std.specs.Prelude.{◌<◌, ◌≤◌, ◌+◌, ◌^◌, length};
+ghost use Rattle.rv_fields.specs.Play.{most_harts};
 
 /// The lines of a trace, read one after another.
 #[derive(Debug, Drop)]
@@ -10,7 +11,7 @@ pub struct TraceLines<'a> {
     pub(crate) rest: &'a [u8],
 
     ghost some: { 1 ≤ harts },
-    ghost few: { harts ≤ 16 },
+    ghost few: { harts ≤ most_harts },
     ghost behind: { 1 < number },
     ghost within: { number + length rest.now < 2 ^ 64 },
 }

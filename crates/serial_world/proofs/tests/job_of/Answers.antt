@@ -3,6 +3,7 @@ use Rattle.std.proofs.Common.{◌≡◌, ◌≤◌, ◌∙◌, Global, List, Vec
 use Rattle.std.specs.List.{AllByRecursion}
 use Rattle.std.proofs.lemmas.List.{length-append, length-map, map-append}
 use Rattle.rv_fields.specs.declared.mode.Mode.TheVariants.{M}
+use Rattle.rv_fields.specs.Play.{most_harts}
 use Rattle.region_plan.specs.declared.plan.HartPlan.{HartPlan}
 use Rattle.region_plan.specs.declared.request.Item.{Item}
 use Rattle.region_plan.specs.Request.{Items}
@@ -51,7 +52,7 @@ loop-count-preserved c =
           (subst (λ (l : List HartPlan). AllByRecursion IsPlainHart (harts_seen l (all_seen (old_templates ++ template ∷ [])))) (sym harts) plain);
     }
 
-keeps : (harts : List HartPlan) (templates : List Items) → length templates ≡ length harts → 1 ≤ length harts → length harts ≤ 16 → AllByRecursion IsPlainHart (harts_seen harts templates) → KeepsRules (work_with (harts_seen harts templates))
+keeps : (harts : List HartPlan) (templates : List Items) → length templates ≡ length harts → 1 ≤ length harts → length harts ≤ most_harts → AllByRecursion IsPlainHart (harts_seen harts templates) → KeepsRules (work_with (harts_seen harts templates))
 keeps harts templates same some most plain =
     let many = seen_length harts templates same in
     record { some = omega (arith, many, some); most = omega (arith, many, most); harts = plain; rest = refl }
