@@ -1,5 +1,5 @@
 -- All harts boot, one after another, and then do what is told.
-use Rattle.std.proofs.Common.{ℕ, zero, suc, ◌+◌, ◌<◌, ◌≤◌, ◌≡◌, ◌≢◌, Bool, true, false, cond, eqb, eq-eqb, List, [], ◌∷◌, ◌++◌, length, replicate, Some, None, refl, sym, ap, subst, ◌∙◌, arith, inl, inr, append_assoc, append-nil, length-append}
+use Rattle.std.proofs.Common.{ℕ, zero, suc, ◌+◌, ◌<◌, ◌≤◌, ◌≡◌, ◌≢◌, Bool, true, false, cond, eqb, eq-eqb, List, [], ◌∷◌, ◌++◌, length, replicate, Some, None, refl, sym, ap, subst, ◌∙◌, arith, inl, inr, append_assoc, append-nil, length-append, ◌-◌}
 use Rattle.std.specs.Prelude.{⊤, nat_le, slice_get, take}
 use Rattle.std.specs.List.{AllByRecursion}
 use Rattle.std.proofs.lemmas.Bool.{ne_eqb}
@@ -189,12 +189,12 @@ word_of_place h (w ∷ words) (q ∷ es) more (suc i) word e are is at = word_of
 
 begins : (harts h : ℕ) (first more : List Effect) → AreOf h (booting_words harts) first → BeginsWithBoot (first ++ more)
 begins harts h first more are =
-    let long : length first ≡ 70 = length_of h (booting_words harts) first are in
+    let long : length first ≡ boot_steps = length_of h (booting_words harts) first are in
     let all : length (first ++ more) ≡ length first + length more = length-append first more in
     record {
       enough = omega (arith, long, all);
       untrapped = untrapped_of h (booting_words harts) first more are;
-      returns = λ e at. word_of_place h (booting_words harts) first more 69 (spelled mret) e are refl at;
+      returns = λ e at. word_of_place h (booting_words harts) first more (boot_steps - 1) (spelled mret) e are refl at;
     }
 
 -- ---- what is behind the boots
@@ -225,16 +225,16 @@ record PassedOver (h : ℕ) (words : List ℕ) (es before rest : List Effect) : 
   steps : made h (turned es before) ≡ made h before + length words
   others : (k : ℕ) → h ≢ k → made k (turned es before) ≡ made k before
 
-passed_over : (h : ℕ) (words : List ℕ) (es before rest : List Effect) → AreOf h words es → made h before + length words ≤ 70 → PassedOver h words es before rest
+passed_over : (h : ℕ) (words : List ℕ) (es before rest : List Effect) → AreOf h words es → made h before + length words ≤ boot_steps → PassedOver h words es before rest
 passed_over h [] [] before rest are room = record { same = refl; steps = omega arith; others = λ k apart. refl }
 passed_over h [] (e ∷ es) before rest are room = absurd are
 passed_over h (word ∷ words) [] before rest are room = absurd are
 passed_over h (word ∷ words) (e ∷ es) before rest are room =
     let step = one_more h e before are.0 in
     let more = passed_over h words es (e ∷ before) rest are.3 (omega (arith, step, room)) in
-    let early : nat_le 70 (made h before) ≡ false = grind (arith, nat_tests) in
+    let early : nat_le boot_steps (made h before) ≡ false = grind (arith, nat_tests) in
     record {
-      same = ap (λ k. cond (nat_le 70 (made k before)) (e ∷ behind_boots (e ∷ before) (es ++ rest)) (behind_boots (e ∷ before) (es ++ rest))) are.0
+      same = ap (λ k. cond (nat_le boot_steps (made k before)) (e ∷ behind_boots (e ∷ before) (es ++ rest)) (behind_boots (e ∷ before) (es ++ rest))) are.0
           ∙ ap (λ t. cond t (e ∷ behind_boots (e ∷ before) (es ++ rest)) (behind_boots (e ∷ before) (es ++ rest))) early
           ∙ more.same;
       steps = more.steps ∙ omega (arith, step);
@@ -244,7 +244,7 @@ passed_over h (word ∷ words) (e ∷ es) before rest are room =
 -- so are all boots
 record AllPassedOver (h count : ℕ) (es before rest : List Effect) : Type 0 where
   same : behind_boots before (es ++ rest) ≡ behind_boots (turned es before) rest
-  steps : (k : ℕ) → h ≤ k → k < h + count → made k (turned es before) ≡ 70
+  steps : (k : ℕ) → h ≤ k → k < h + count → made k (turned es before) ≡ boot_steps
   others : (k : ℕ) → k < h → made k (turned es before) ≡ made k before
 
 turned_append : (a b before : List Effect) → turned (a ++ b) before ≡ turned b (turned a before)
@@ -268,18 +268,18 @@ all_passed_over harts h (suc count) es before rest are none =
       same = ap (λ q. behind_boots before (q ++ rest)) are.2 ∙ ap (behind_boots before) (append_assoc are.0 are.1 rest) ∙ first.same ∙ more.same
           ∙ ap (λ q. behind_boots q rest) (sym last);
       steps = λ k from below. ap (made k) last ∙ elim (eqb_tells k h) [
-        | inl same ↦ ap (λ q. made q (turned are.1 middle)) same.1 ∙ more.others h (omega arith) ∙ first.steps ∙ ap (λ n. n + 70) (none h (omega arith))
+        | inl same ↦ ap (λ q. made q (turned are.1 middle)) same.1 ∙ more.others h (omega arith) ∙ first.steps ∙ ap (λ n. n + boot_steps) (none h (omega arith))
         | inr other ↦ more.steps k (let apart : k ≢ h = other.1 in omega arith) (omega (arith, below))
       ];
       others = λ k below. ap (made k) last ∙ more.others k (omega (arith, below)) ∙ first.others k (let apart : h ≢ k = omega (arith, below) in apart);
     }
 
 -- and nothing of what follows
-all_kept : (harts : ℕ) (told before : List Effect) → AllByRecursion (λ (e : Effect). e.hart < harts) told → ((k : ℕ) → k < harts → 70 ≤ made k before)
+all_kept : (harts : ℕ) (told before : List Effect) → AllByRecursion (λ (e : Effect). e.hart < harts) told → ((k : ℕ) → k < harts → boot_steps ≤ made k before)
     → behind_boots before told ≡ told
 all_kept harts [] before members enough = refl
 all_kept harts (e ∷ told) before members enough =
-    let late : nat_le 70 (made e.hart before) ≡ true = grind (arith, nat_tests, enough e.hart members.0) in
+    let late : nat_le boot_steps (made e.hart before) ≡ true = grind (arith, nat_tests, enough e.hart members.0) in
     let rest = all_kept harts told (e ∷ before) members.1 (λ k below. omega (arith, enough k below, never_less k e before)) in
     ap (λ t. cond t (e ∷ behind_boots (e ∷ before) told) (behind_boots (e ∷ before) told)) late ∙ ap (λ es. e ∷ es) rest
 

@@ -17,8 +17,8 @@ use Rattle.rv_fields.proofs.Legal.{legal_at_reset}
 use Rattle.rv_fields.proofs.Masks.{field_of-with_field}
 use Rattle.rv_fields.proofs.MeaningLaws.{doubleword_result}
 use Rattle.boot_words.specs.Boot.{boot_block, boot_csr_list, dispatcher, instruction, mret, spelled}
-use Rattle.boot_words.specs.Booting.{AreLoadable, BootsAlways, HoldsBoot, HoldsEach, Loads, Runs}
-use Rattle.boot_words.specs.Layout.{boot_block_at}
+use Rattle.boot_words.specs.Booting.{AreLoadable, BootsAlways, HoldsBoot, HoldsEach, Loads, Runs, dispatcher_steps}
+use Rattle.boot_words.specs.Layout.{boot_block_at, dispatcher_at}
 use Rattle.boot_words.specs.Startup.{loaded_csrs}
 use Rattle.boot_words.proofs.Cleared.{all_overwritten, all_suit}
 use Rattle.boot_words.proofs.Dispatched.{dispatched}
@@ -134,7 +134,7 @@ boots harts h loads seen hart member few ok holds reset_is =
     let written : hart_csrs led.last ≡ record (loaded_csrs h loads.csrs) { mcause = hart.csrs.mcause; mtval = hart.csrs.mtval } =
     led.at.csrs_are ∙ all_overwritten hart.csrs loads legal ok ∙ ap (λ n. record (loaded_csrs n loads.csrs) { mcause = hart.csrs.mcause; mtval = hart.csrs.mtval }) number in (
       left led.last,
-      runs_on seen h (take 7 (dispatcher harts)) boot_block hart there.0 (left led.last) there.1 led.runs,
+      runs_on seen h (take dispatcher_steps (dispatcher harts)) boot_block hart there.0 (left led.last) there.1 led.runs,
       record {
         number = led.at.number;
         pc = ap (λ (file : CsrFile). file.mepc) written;

@@ -18,7 +18,7 @@ use Rattle.rv_fields.specs.Play.{most_harts}
 use Rattle.rv_fields.proofs.MeaningLaws.{addi_adds, doubleword_result}
 use Rattle.rv_encode.specs.Fitting.{misfit}
 use Rattle.boot_words.specs.Boot.{dispatcher, instruction, read_csr, spelled}
-use Rattle.boot_words.specs.Booting.{HoldsEach, Runs}
+use Rattle.boot_words.specs.Booting.{HoldsEach, Runs, dispatcher_steps}
 use Rattle.boot_words.specs.Layout.{boot_block_at, dispatcher_at}
 use Rattle.boot_words.proofs.Running.{At, Stands, Takes, computes, retires_to, then_runs, wrote, wrote_at}
 
@@ -120,7 +120,7 @@ computes_to seen h word r v w hart takes is = record { s = takes.s; steps = take
 
 pub dispatched : (harts h : ℕ) (seen : Seen) (csrs : CsrFile) (hart : Hart) → h < harts → harts ≤ most_harts → csrs.mhartid ≡ h
     → HoldsEach seen.byte 4 dispatcher_at (dispatcher harts) → At h dispatcher_at csrs hart
-    → (end : Hart) × Runs seen h hart (take 7 (dispatcher harts)) end × At h (boot_block_at h) csrs end
+    → (end : Hart) × Runs seen h hart (take dispatcher_steps (dispatcher harts)) end × At h (boot_block_at h) csrs end
 dispatched harts h seen csrs hart member few number holds at0 =
     let few_harts : harts < 2048 = omega arith in
     let few_h : h < most_harts = omega arith in
@@ -160,4 +160,4 @@ dispatched harts h seen csrs hart member few number holds at0 =
     (h7, then_runs seen h _ (drop 1 words) hart h1 h7 step1 run1, at7)
   where
     words : List ℕ
-    words = take 7 (dispatcher harts)
+    words = take dispatcher_steps (dispatcher harts)

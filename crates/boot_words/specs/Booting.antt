@@ -58,10 +58,15 @@ Runs seen h hart [] end = end ≡ hart
 Runs seen h hart (word ∷ words) end =
     (s : Stepped) × (step seen hart ≡ Some s) × IsQuiet seen h word s.effect × Runs seen h s.hart words end
 
--- all of the dispatcher but the instruction at which a hart waits, and the whole block: 70 words
-abbrev pub booting_words : ℕ → List ℕ
-booting_words harts = take 7 (dispatcher harts) ++ boot_block
+-- the steps of a boot in the dispatcher: one for each instruction but the last, at which a hart waits
+abbrev pub dispatcher_steps : ℕ
+dispatcher_steps = 7
 
+-- these instructions, and the whole block
+abbrev pub booting_words : ℕ → List ℕ
+booting_words harts = take dispatcher_steps (dispatcher harts) ++ boot_block
+
+-- how many these are
 abbrev pub boot_steps : ℕ
 boot_steps = 70
 

@@ -1,5 +1,5 @@
 -- What a play from reset has to be to pass: each hart boots, and then retires what is told.
-use Rattle.std.specs.Prelude.{ℕ, zero, suc, ◌≡◌, ◌+◌, ◌<◌, ◌≤◌, ◌==◌, List, [], ◌∷◌, ◌++◌, filter, length, replicate, slice_get, take, nat_le, Some, None, false, if◌then◌else◌}
+use Rattle.std.specs.Prelude.{ℕ, zero, suc, ◌≡◌, ◌+◌, ◌-◌, ◌<◌, ◌≤◌, ◌==◌, List, [], ◌∷◌, ◌++◌, filter, length, replicate, slice_get, take, nat_le, Some, None, false, if◌then◌else◌}
 use Rattle.std.specs.List.{AllByRecursion}
 use Rattle.rv_fields.specs.Effect.{Effect}
 use Rattle.rv_fields.specs.Memory.{Bytes}
@@ -26,7 +26,7 @@ effects_by h effects = filter (λ (e : Effect). e.hart == h) effects
 pub record BeginsWithBoot (effects : List Effect) : Type 0 where
   pub enough : boot_steps ≤ length effects
   pub untrapped : AllByRecursion (λ (e : Effect). e.trap ≡ None) (take boot_steps effects)
-  pub returns : (e : Effect) → slice_get effects 69 ≡ Some e → e.word ≡ Some (spelled mret)
+  pub returns : (e : Effect) → slice_get effects (boot_steps - 1) ≡ Some e → e.word ≡ Some (spelled mret)
 
 -- Of effects that follow others, those before which their hart has made as many steps as a boot takes.
 abbrev pub behind_boots : List Effect → List Effect → List Effect

@@ -4,6 +4,9 @@ ghost use Rattle.boot_words.specs.Boot.{dispatcher};
 use crate::spelling::{read_csr, spelled};
 use rv_fields::{Csr, Ins};
 
+/// How many steps the boot of a hart takes: one for each word of the dispatcher but the last, and one for each of its block.
+pub const BOOT_STEPS: u8 = 70;
+
 /// The words at which every hart begins: each of the first `harts` harts goes on to its boot block, and any other
 /// stays here.
 pub fn dispatcher(harts: u8) -> [u32; 8]

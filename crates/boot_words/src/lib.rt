@@ -11,10 +11,11 @@ mod tests;
 mod trap;
 
 pub use block::boot_block;
-pub use entry::dispatcher;
+pub use entry::{BOOT_STEPS, dispatcher};
 pub use layout::{
     DISPATCHER_AT, M_HANDLER_AT, S_HANDLER_AT, boot_block_at, boot_csrs_at, boot_registers_at,
     code_start,
 };
+pub use spelling::mret;
 pub use start::{BootValues, boot_values, start_csrs};
 pub use trap::handler;

@@ -146,12 +146,12 @@ boots_named h (suc n) most small = all_append (λ k. k < most) (replicate boot_s
     same zero less = tt
     same (suc m) less = (less, same m less)
 
-boots_long : (h n : ℕ) → length (boots_from h n) ≡ n * 70
+boots_long : (h n : ℕ) → length (boots_from h n) ≡ n * boot_steps
 boots_long h zero = refl
 boots_long h (suc n) =
     let both = length-append (replicate boot_steps h) (boots_from (h + 1) n) in
     let rest = boots_long (h + 1) n in
-    let here : length (replicate boot_steps h) ≡ 70 = refl in
+    let here : length (replicate boot_steps h) ≡ boot_steps = refl in
     omega (arith, both, rest, here)
 
 steps_named : (harts : ℕ) (ls : List Line) → AllByRecursion (IsLine harts) ls → AllByRecursion (λ k. k < harts) (order_of (effects_of ls))

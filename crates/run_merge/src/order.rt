@@ -7,12 +7,10 @@ ghost use Rattle.run_merge.specs.Justified as justified;
 ghost use Rattle.boot_words.specs.Passing.{boots_from};
 ghost use Rattle.run_merge.specs.Order.{whole_order};
 
+use boot_words::BOOT_STEPS;
 use rv_fields::NoMemory;
 use std::alloc::Global;
 use trace_text::Line;
-
-/// The number of steps that the boot of a hart takes.
-const BOOT_STEPS: usize = 70;
 
 /// The order in which so many harts step: their boots, one after another, and then the steps of the lines.
 pub(crate) fn order_of(alloc: Global, harts: u8, lines: &[Line]) -> Result<Vec<u8>, NoMemory>
@@ -29,7 +27,7 @@ fn add_boots(order: &mut Vec<u8>, harts: u8) -> Result<(), NoMemory>
     ensures { OnOk result (order.new.items ≡ order.old.items ++ boots_from 0 harts) }
 {
     for hart in 0..harts {
-        order.resize(order.len() + BOOT_STEPS, hart)?;
+        order.resize(order.len() + BOOT_STEPS as usize, hart)?;
     }
     Ok(())
 }

@@ -1,5 +1,5 @@
 -- Boots, one step more, and what is behind them.
-use Rattle.std.proofs.Common.{ℕ, zero, suc, ◌+◌, ◌<◌, ◌≤◌, ◌≡◌, Bool, true, false, ◌&&◌, cond, eqb, List, [], ◌∷◌, ◌++◌, length, length-append, Option, Some, None, refl, sym, ap, ◌∙◌, arith}
+use Rattle.std.proofs.Common.{ℕ, zero, suc, ◌+◌, ◌<◌, ◌≤◌, ◌≡◌, Bool, true, false, ◌&&◌, cond, eqb, List, [], ◌∷◌, ◌++◌, length, length-append, Option, Some, None, refl, sym, ap, ◌∙◌, arith, ◌-◌}
 use Rattle.std.specs.Fmt.{decimal}
 use Rattle.std.specs.Prelude.{is_none, nat_le, slice_get, slice_index_or, take}
 use Rattle.std.specs.Option.{option_map_or, option_or}
@@ -87,47 +87,47 @@ abbrev pub boot_more : Boot → Effect → Boot
 boot_more boot e = record {
   steps = boot.steps + 1;
   untrapped = cond (eqb boot.untrapped boot.steps && is_none e.trap) (boot.untrapped + 1) boot.untrapped;
-  returned = nat_le 70 (boot.steps + 1) && is_mret e;
+  returned = nat_le boot_steps (boot.steps + 1) && is_mret e;
 }
 
 -- so many steps are those that were made, as long as there are fewer than in a boot
-all_steps : (boot : Boot) (effects : List Effect) → IsBootOf boot effects → boot.steps < 70 → (boot.steps ≡ length effects) × (length effects < 70)
+all_steps : (boot : Boot) (effects : List Effect) → IsBootOf boot effects → boot.steps < boot_steps → (boot.steps ≡ length effects) × (length effects < boot_steps)
 all_steps boot effects is few = of (nat_le boot_steps (length effects)) refl is.steps
   where
-    of : (b : Bool) → b ≡ nat_le boot_steps (length effects) → boot.steps ≡ cond b boot_steps (length effects) → (boot.steps ≡ length effects) × (length effects < 70)
+    of : (b : Bool) → b ≡ nat_le boot_steps (length effects) → boot.steps ≡ cond b boot_steps (length effects) → (boot.steps ≡ length effects) × (length effects < boot_steps)
     of true e same = absurd (omega (arith, same, few))
     of false e same = (same, omega (arith, same, few))
 
-counted : (n : ℕ) → n < 70 → n + 1 ≡ cond (nat_le boot_steps (n + 1)) boot_steps (n + 1)
+counted : (n : ℕ) → n < boot_steps → n + 1 ≡ cond (nat_le boot_steps (n + 1)) boot_steps (n + 1)
 counted n few = of (nat_le boot_steps (n + 1)) refl
   where
     of : (b : Bool) → b ≡ nat_le boot_steps (n + 1) → n + 1 ≡ cond b boot_steps (n + 1)
-    of true e = let enough : 70 ≤ n + 1 = grind (arith, nat_tests, e) in omega (arith, enough, few)
+    of true e = let enough : boot_steps ≤ n + 1 = grind (arith, nat_tests, e) in omega (arith, enough, few)
     of false e = refl
 
-returned_more : (effects : List Effect) (e : Effect) → length effects < 70 → (nat_le 70 (length effects + 1) && is_mret e) ≡ returns (effects ++ e ∷ [])
-returned_more effects e few = of (nat_le 70 (length effects + 1)) refl
+returned_more : (effects : List Effect) (e : Effect) → length effects < boot_steps → (nat_le boot_steps (length effects + 1) && is_mret e) ≡ returns (effects ++ e ∷ [])
+returned_more effects e few = of (nat_le boot_steps (length effects + 1)) refl
   where
-    of : (b : Bool) → b ≡ nat_le 70 (length effects + 1) → (b && is_mret e) ≡ returns (effects ++ e ∷ [])
+    of : (b : Bool) → b ≡ nat_le boot_steps (length effects + 1) → (b && is_mret e) ≡ returns (effects ++ e ∷ [])
     of true is =
-        let last : length effects ≡ 69 = (let enough : 70 ≤ length effects + 1 = grind (arith, nat_tests, is) in omega (arith, enough, few)) in
+        let last : length effects ≡ boot_steps - 1 = (let enough : boot_steps ≤ length effects + 1 = grind (arith, nat_tests, is) in omega (arith, enough, few)) in
         sym (ap (λ k. option_map_or is_mret (slice_get (effects ++ e ∷ []) k) false) (sym last) ∙ ap (λ o. option_map_or is_mret o false) (at_end effects e))
     of false is =
-        let less : length effects + 1 ≤ 69 = (let below : length effects + 1 < 70 = grind (arith, nat_tests, is) in omega (arith, below)) in
-        sym (ap (λ o. option_map_or is_mret o false) (slice_get_past (effects ++ e ∷ []) 69 (omega (arith, less, length-append effects (e ∷ [])))))
+        let less : length effects + 1 ≤ boot_steps - 1 = (let below : length effects + 1 < boot_steps = grind (arith, nat_tests, is) in omega (arith, below)) in
+        sym (ap (λ o. option_map_or is_mret o false) (slice_get_past (effects ++ e ∷ []) (boot_steps - 1) (omega (arith, less, length-append effects (e ∷ [])))))
 
-pub stepped : (boot : Boot) (effects : List Effect) (e : Effect) → IsBootOf boot effects → boot.steps < 70 → IsBootOf (boot_more boot e) (effects ++ e ∷ [])
+pub stepped : (boot : Boot) (effects : List Effect) (e : Effect) → IsBootOf boot effects → boot.steps < boot_steps → IsBootOf (boot_more boot e) (effects ++ e ∷ [])
 stepped boot effects e is few =
     let all = all_steps boot effects is few in
     let long : length (effects ++ e ∷ []) ≡ length effects + 1 = length-append effects (e ∷ []) in
-    let kept : boot.untrapped ≡ untrapped effects = is.untrapped_are ∙ ap untrapped (take_all 70 effects (omega (arith, all.1))) in
+    let kept : boot.untrapped ≡ untrapped effects = is.untrapped_are ∙ ap untrapped (take_all boot_steps effects (omega (arith, all.1))) in
     record {
       steps = ap (λ n. n + 1) all.0 ∙ counted (length effects) all.1 ∙ ap (λ n. cond (nat_le boot_steps n) boot_steps n) (sym long);
       untrapped_are = ap (λ n. cond (eqb n boot.steps && is_none e.trap) (n + 1) n) kept
           ∙ ap (λ n. cond (eqb (untrapped effects) n && is_none e.trap) (untrapped effects + 1) (untrapped effects)) all.0
           ∙ same (eqb (untrapped effects) (length effects) && is_none e.trap)
-          ∙ sym (untrapped_more e effects) ∙ ap untrapped (sym (take_all 70 (effects ++ e ∷ []) (omega (arith, long, all.1))));
-      returned = ap (λ n. nat_le 70 (n + 1) && is_mret e) all.0 ∙ returned_more effects e all.1;
+          ∙ sym (untrapped_more e effects) ∙ ap untrapped (sym (take_all boot_steps (effects ++ e ∷ []) (omega (arith, long, all.1))));
+      returned = ap (λ n. nat_le boot_steps (n + 1) && is_mret e) all.0 ∙ returned_more effects e all.1;
     }
   where
     same : (b : Bool) → cond b (untrapped effects + 1) (untrapped effects) ≡ cond b (suc (untrapped effects)) (untrapped effects)
@@ -137,12 +137,12 @@ stepped boot effects e is few =
 -- nothing behind a boot changes what is kept of it
 pub stays : (boot : Boot) (effects more : List Effect) → IsBootOf boot effects → nat_le boot_steps (length effects) ≡ true → IsBootOf boot (effects ++ more)
 stays boot effects more is over =
-    let enough : 70 ≤ length effects = grind (arith, nat_tests, over) in
+    let enough : boot_steps ≤ length effects = grind (arith, nat_tests, over) in
     let longer : nat_le boot_steps (length (effects ++ more)) ≡ true = grind (arith, nat_tests, length-append effects more, enough) in
     record {
       steps = is.steps ∙ ap (λ b. cond b boot_steps (length effects)) over ∙ sym (ap (λ b. cond b boot_steps (length (effects ++ more))) longer);
-      untrapped_are = is.untrapped_are ∙ ap untrapped (sym (take-append-le 70 effects more enough));
-      returned = is.returned ∙ ap (λ o. option_map_or is_mret o false) (sym (in_front effects more 69 (omega (arith, enough))));
+      untrapped_are = is.untrapped_are ∙ ap untrapped (sym (take-append-le boot_steps effects more enough));
+      returned = is.returned ∙ ap (λ o. option_map_or is_mret o false) (sym (in_front effects more (boot_steps - 1) (omega (arith, enough))));
     }
 
 -- ---- the boots of all harts

@@ -121,7 +121,7 @@ word_is (Some word) is = ap Some (eqb-true word (spelled mret) is)
 
 pub boot_passes : (effects : List Effect) → begins_with_boot effects ≡ true → BeginsWithBoot effects
 boot_passes effects is =
-    let both = parts (eqb (untrapped (take boot_steps effects)) boot_steps) (executes_mret (slice_get effects 69)) is in
+    let both = and_parts (eqb (untrapped (take boot_steps effects)) boot_steps) (executes_mret (slice_get effects (boot_steps - 1))) is in
     let count : untrapped (take boot_steps effects) ≡ boot_steps = eqb-true _ _ both.0 in
     let long : length (take boot_steps effects) ≡ min boot_steps (length effects) = length-take boot_steps effects in
     let whole : untrapped (take boot_steps effects) ≡ length (take boot_steps effects) = omega (arith, count, long, never_more (take boot_steps effects)) in
@@ -135,8 +135,8 @@ pub boot_told : (effects : List Effect) → BeginsWithBoot effects → begins_wi
 boot_told effects boot =
     let long : length (take boot_steps effects) ≡ min boot_steps (length effects) = length-take boot_steps effects in
     let count : untrapped (take boot_steps effects) ≡ boot_steps = none_traps (take boot_steps effects) boot.untrapped ∙ omega (arith, long, boot.enough) in
-    let last = found_at effects 69 (omega (arith, boot.enough)) in
-    let word : executes_mret (slice_get effects 69) ≡ true = ap executes_mret last.1 ∙ ap (λ m. option_map_or (λ word. eqb word (spelled mret)) m false) (boot.returns last.0 last.1) in
+    let last = found_at effects (boot_steps - 1) (omega (arith, boot.enough)) in
+    let word : executes_mret (slice_get effects (boot_steps - 1)) ≡ true = ap executes_mret last.1 ∙ ap (λ m. option_map_or (λ word. eqb word (spelled mret)) m false) (boot.returns last.0 last.1) in
     rw (eq-eqb _ _ count) word
   where
     found_at : (es : List Effect) (i : ℕ) → i < length es → (e : Effect) × (slice_get es i ≡ Some e)

@@ -1,5 +1,5 @@
 -- How a trace is compared with a play: the first difference, where there is one.
-use Rattle.std.specs.Prelude.{ℕ, zero, suc, ◌+◌, ◌==◌, ◌&&◌, List, [], ◌∷◌, codes, length, take, slice_get, Bool, false, is_none, Option, Some, None, if◌then◌else◌}
+use Rattle.std.specs.Prelude.{ℕ, zero, suc, ◌+◌, ◌==◌, ◌&&◌, List, [], ◌∷◌, codes, length, take, slice_get, Bool, false, is_none, Option, Some, None, if◌then◌else◌, ◌-◌}
 use Rattle.std.specs.Fmt.{decimal}
 use Rattle.std.specs.Option.{option_map_or, option_or}
 use Rattle.std.specs.Str.{bytes_eq}
@@ -53,7 +53,7 @@ is_mret e = option_map_or (λ word. word == spelled mret) e.word false
 
 -- the last effect of a boot is there, and is that of mret
 abbrev pub returns : List Effect → Bool
-returns effects = option_map_or is_mret (slice_get effects 69) false
+returns effects = option_map_or is_mret (slice_get effects (boot_steps - 1)) false
 
 -- the effects of a hart begin with a boot
 abbrev pub begins_with_boot : List Effect → Bool

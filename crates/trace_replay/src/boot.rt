@@ -5,13 +5,8 @@ ghost use Rattle.rv_step.specs.Views.{effect_seen};
 ghost use Rattle.boot_words.specs.Booting.{boot_steps};
 ghost use Rattle.trace_replay.specs.Comparing.{begins_with_boot, is_mret};
 
+use boot_words::{BOOT_STEPS, mret};
 use rv_machine::Stepped;
-
-/// The number of steps of a boot.
-const BOOT_STEPS: u8 = 70;
-
-/// The word of mret, with which a boot ends.
-const MRET: u32 = 0x3020_0073;
 
 /// The boot of one hart.
 #[derive(Clone, Copy, Debug)]
@@ -40,7 +35,7 @@ impl Boot {
 
     /// Whether as many steps were made as a boot has.
     pub(crate) fn is_over(&self) -> bool
-        ensures steps { result ≡ nat_le 70 self.now.steps }
+        ensures steps { result ≡ nat_le boot_steps self.now.steps }
         ensures over { (effects : List Effect) → IsBootOf self.now effects → result ≡ nat_le boot_steps (length effects) }
     {
         self.steps >= BOOT_STEPS
@@ -55,7 +50,7 @@ impl Boot {
 
     /// The boot with one step more.
     pub(crate) fn with(&self, stepped: &Stepped) -> Boot
-        requires { self.now.steps < 70 }
+        requires { self.now.steps < boot_steps }
         ensures { (hart : ℕ) (effects : List Effect) → IsBootOf self.now effects
             → IsBootOf result (effects ++ effect_seen hart stepped.now ∷ []) }
     {
@@ -68,7 +63,7 @@ impl Boot {
 
     /// The steps before the first that trapped, with one step more.
     fn untrapped_with(&self, stepped: &Stepped) -> u8
-        requires { self.now.steps < 70 }
+        requires { self.now.steps < boot_steps }
         ensures { result ≡ (if (self.now.untrapped == self.now.steps) && is_none stepped.now.trap then self.now.untrapped + 1 else self.now.untrapped) }
     {
         if self.untrapped == self.steps && stepped.trap.is_none() {
@@ -80,9 +75,9 @@ impl Boot {
 
     /// Whether one step more is the last of a boot, and an mret.
     fn returns_with(&self, stepped: &Stepped) -> bool
-        requires { self.now.steps < 70 }
-        ensures { (hart : ℕ) → result ≡ (nat_le 70 (self.now.steps + 1) && is_mret (effect_seen hart stepped.now)) }
+        requires { self.now.steps < boot_steps }
+        ensures { (hart : ℕ) → result ≡ (nat_le boot_steps (self.now.steps + 1) && is_mret (effect_seen hart stepped.now)) }
     {
-        self.steps + 1 >= BOOT_STEPS && stepped.word == Some(MRET)
+        self.steps + 1 >= BOOT_STEPS && stepped.word == Some(mret())
     }
 }

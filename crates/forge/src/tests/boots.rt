@@ -4,18 +4,13 @@ ghost use Rattle.std.specs.Prelude.{◌≡◌, length};
 
 use super::harts::{job_of, no_trees, text_of};
 use crate::{Made, make_serial};
+use boot_words::{BOOT_STEPS, code_start, mret};
 use choice_tree::DrawWords;
 use elf_file::read_elf;
 use rv_machine::{Machine, Reset, Stepped};
 use std::alloc::Global;
 use std::process::Abort;
 use std::test::Fail;
-
-/// How many turns a boot takes.
-const BOOT_TURNS: u32 = 70;
-
-/// `mret`, which ends a boot.
-const MRET: u32 = 0x3020_0073;
 
 /// `add x3, x1, x2`, the first instruction of each hart.
 const FIRST: u32 = 0x0020_81b3;
@@ -91,11 +86,11 @@ impl Booting {
 
     /// Boots the hart, and makes its first turn behind the boot.
     fn boot(&mut self, rt: &impl Abort, alloc: Global, hart: u8) -> Result<Stepped, Fail> {
-        for _ in 1..BOOT_TURNS {
+        for _ in 1..BOOT_STEPS {
             self.turn(rt, alloc, hart)?;
         }
         let last = self.turn(rt, alloc, hart)?;
-        assert_eq!(rt; last.word, Some(MRET), "hart {hart}");
+        assert_eq!(rt; last.word, Some(mret()), "hart {hart}");
         self.turn(rt, alloc, hart)
     }
 
@@ -132,7 +127,7 @@ fn assert_begins(
     hart: u8,
     stepped: &Stepped,
 ) -> Result<(), Fail> {
-    let start = 0x8400_0000 + u64::from(hart) * 0x10_0000;
+    let start = code_start(hart);
     assert_eq!(rt;
         (stepped.pc, stepped.word),
         (start, Some(FIRST)),
