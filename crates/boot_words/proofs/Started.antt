@@ -6,7 +6,7 @@ use Rattle.rv_fields.specs.CsrFile.{CsrFile, reset, written, zero_file}
 use Rattle.rv_fields.specs.Field.{field_of, masked, with_field}
 use Rattle.rv_fields.specs.Trap.{popped}
 use Rattle.region_plan.specs.Plan.{no_hart}
-use Rattle.boot_words.specs.Layout.{code_start}
+use Rattle.boot_words.specs.Layout.{code_start, m_handler_at}
 use Rattle.boot_words.specs.Startup.{start_csrs, start_mode}
 use Rattle.boot_words.proofs.Words.{holds_below, holds_at}
 
@@ -17,7 +17,7 @@ code_kept h small = eqb-true _ _ (holds_at (λ k. eqb (masked address_bits 0 (co
 
 -- mret has set MPIE (bit 7) and put mode U in MPP
 abbrev pub m_csrs : ℕ → CsrFile
-m_csrs h = record zero_file { mstatus = 0x80; mtvec = 0x80020000; mepc = code_start h; stvec = 0x3ffffff000; mhartid = h }
+m_csrs h = record zero_file { mstatus = 0x80; mtvec = m_handler_at; mepc = code_start h; stvec = 0x3ffffff000; mhartid = h }
 
 pub start_is : (h : ℕ) → h < 256 → start_csrs no_hart h ≡ m_csrs h
 unfolding start_csrs written masked with_field field_of popped
@@ -30,7 +30,7 @@ mode_is h = refl
 -- the raw values, with this one for mepc
 abbrev pub raw_with : ℕ → List ℕ
 raw_with mepc =
-    0 ∷ 0x3ffffff000 ∷ 0 ∷ 0 ∷ 0 ∷ 0 ∷ 0 ∷ 0x80 ∷ 0 ∷ 0 ∷ 0 ∷ 0x80020000 ∷ 0 ∷ mepc ∷ 0 ∷ 0 ∷ 0 ∷ 0 ∷ 0 ∷ []
+    0 ∷ 0x3ffffff000 ∷ 0 ∷ 0 ∷ 0 ∷ 0 ∷ 0 ∷ 0x80 ∷ 0 ∷ 0 ∷ 0 ∷ m_handler_at ∷ 0 ∷ mepc ∷ 0 ∷ 0 ∷ 0 ∷ 0 ∷ 0 ∷ []
 
 pub start_of_reset : (h : ℕ) → h < 256 → reset h (raw_with (code_start h)) ≡ start_csrs no_hart h
 unfolding reset written masked with_field field_of

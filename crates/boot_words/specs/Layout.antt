@@ -8,11 +8,15 @@ use Rattle.region_plan.specs.Plan.{HartPlan, Work, page_of, page_size, plan_of}
 
 -- where every hart begins
 abbrev pub dispatcher_at : ℕ
-dispatcher_at = 0x80000000
+dispatcher_at = reset_pc
+
+-- where the boot block of hart 0 begins
+abbrev pub boot_blocks_at : ℕ
+boot_blocks_at = 0x80001000
 
 -- where a hart's boot block begins
 abbrev pub boot_block_at : ℕ → ℕ
-boot_block_at hart = 0x80001000 + hart * 0x1000
+boot_block_at hart = boot_blocks_at + hart * 0x1000
 
 -- where its starting values of CSRs and of x1 to x31 stand, and how far behind it
 abbrev pub csrs_offset : ℕ
@@ -34,9 +38,13 @@ m_handler_at = 0x80020000
 abbrev pub s_handler_at : ℕ
 s_handler_at = 0x80021000
 
+-- where the code window of hart 0 begins
+abbrev pub code_windows_at : ℕ
+code_windows_at = 0x84000000
+
 -- where a hart's code window begins
 abbrev pub code_start : ℕ → ℕ
-code_start hart = 0x84000000 + hart * 0x100000
+code_start hart = code_windows_at + hart * 0x100000
 
 -- the address of a word of the window
 abbrev pub code_address : ℕ → ℕ → ℕ

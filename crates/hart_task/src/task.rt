@@ -3,7 +3,7 @@ ghost use Rattle.rv_fields.specs.Decode.{Decoded};
 ghost use Rattle.rv_fields.specs.Memory.{in_ram};
 ghost use Rattle.region_plan.specs.Plan.{Work, hart_count, plan_of};
 ghost use Rattle.region_plan.specs.Request.{no_arms};
-ghost use Rattle.region_plan.specs.Rules.{IsMakeableRequest, KeepsRules};
+ghost use Rattle.region_plan.specs.Rules.{IsMakeableRequest, KeepsRules, most_requests};
 ghost use Rattle.region_plan.specs.Views.{request_seen, work_of};
 ghost use Rattle.std.specs.List.{AllByRecursion};
 ghost use Rattle.trace_text.specs.Lines as told;
@@ -168,7 +168,7 @@ impl HartTask {
     ) -> Result<u64, NoMemory>
         requires makeable { IsMakeableRequest (request_seen request) }
         requires room { 0 < W.room world.old }
-        requires count { self.old.begun < 1000 }
+        requires count { self.old.begun < most_requests }
         ensures task { IfOk result (λ place. task_seen self.new
             ≡ begun_task (task_seen self.old) (word_asked request) place (told.request self.old.hart.number self.old.begun Kind.Ins ∷ [])) }
         ensures commits { IfOk result (λ place. Commits place (task_event self.old.hart.number (told.request self.old.hart.number self.old.begun Kind.Ins ∷ []))

@@ -1,7 +1,7 @@
 ghost use Rattle.std.specs.Prelude.{◌≤◌, ◌<◌, IsTrue, length, IfOk};
 ghost use Rattle.std.specs.List.{AllByRecursion};
 ghost use Rattle.rv_fields.specs.Immediate.{fits_i};
-ghost use Rattle.region_plan.specs.Rules.{IsMakeable, KeepsRules};
+ghost use Rattle.region_plan.specs.Rules.{IsMakeable, KeepsRules, most_requests};
 ghost use Rattle.region_plan.specs.Views.{work_of};
 ghost use Rattle.hart_task.specs.Asking.{item_seen};
 ghost use Rattle.hart_task.specs.Task.{IsTaskOf};
@@ -80,7 +80,7 @@ fn add(rd: u8, rs1: u8, rs2: u8) -> Item
 
 /// The job of one hart with this template.
 fn job_of(alloc: Global, template: Vec<Item>) -> Result<Job, AllocError>
-    requires room { length template.items ≤ 1000 }
+    requires room { length template.items ≤ most_requests }
     requires requests { AllByRecursion (λ item. IsMakeable (item_seen item)) template.items }
     ensures { IfOk result (λ job. KeepsRules (work_of job)) }
 {

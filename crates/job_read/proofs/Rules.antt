@@ -1,5 +1,5 @@
 -- A job that is accepted keeps the rules.
-use Rattle.std.proofs.Common.{ℕ, suc, codes, ◌≡◌, ◌<◌, ◌≤◌, Bool, true, false, cond, inl, inr, List, [], ◌∷◌, length, Option, Some, None, Result, Ok, Err, refl, ap, subst, arith}
+use Rattle.std.proofs.Common.{ℕ, suc, codes, ◌≡◌, ◌<◌, ◌≤◌, Bool, true, false, cond, inl, inr, List, [], ◌∷◌, length, Some, None, Result, Ok, Err, refl, ap, subst, arith}
 use Rattle.std.specs.Prelude.{IfOk}
 use Rattle.std.specs.List.{AllByRecursion}
 use Rattle.std.proofs.lemmas.Bool.{and_parts, ltb-true, leb-true}
@@ -8,13 +8,14 @@ use Rattle.std.specs.Str.{bytes_eq}
 use Rattle.serde_json.specs.Data.{Data, Members, Items as Values, no_items as no_values, item}
 use Rattle.serde_json.specs.Events.{items_len}
 use Rattle.serde_json.specs.Find.{as_array, as_object, get_member}
-use Rattle.rv_fields.specs.Attempt.{◌>>=◌}
+use Rattle.rv_fields.specs.Play.{most_harts}
 use Rattle.rv_fields.specs.RowTable.{ins_called}
+use Rattle.rv_fields.proofs.Options.{found}
 use Rattle.region_plan.specs.Pinned.{bare_pins}
 use Rattle.region_plan.specs.declared.job.Job.{Job}
 use Rattle.region_plan.specs.Plan.{HartPlan, Work, no_hart}
 use Rattle.region_plan.specs.Request.{Items, Pins, Request, no_items, one}
-use Rattle.region_plan.specs.Rules.{IsMakeable, IsMakeableRequest, IsPlainHart, KeepsRules, most_harts, most_requests}
+use Rattle.region_plan.specs.Rules.{IsMakeable, IsMakeableRequest, IsPlainHart, KeepsRules, most_requests}
 use Rattle.region_plan.specs.Script.{script_of}
 use Rattle.region_plan.specs.Views.{work_of, work_with}
 use Rattle.json_keys.specs.declared.input.InputFault.{InputFault}
@@ -22,28 +23,23 @@ use Rattle.json_keys.specs.Input.{Reads}
 use Rattle.json_keys.specs.Json.{integer, object_of, natural_at, text_at}
 use Rattle.job_read.specs.Accepted.{given_by, pins_of, register, request_of, items_of, template_at, hart_of, harts_of, harts_at, job_of}
 
--- two steps that found something: the first found what the second goes on with
-both_found : {A B : Type 0} (first : Option A) (next : A → Option B) (found : B) → (first >>= next) ≡ Some found → (x : A) × (first ≡ Some x) × (next x ≡ Some found)
-both_found None next found e = absurd cc
-both_found (Some x) next found e = (x, refl, e)
-
 -- the operands that are read are all that an item has
 pins_alone : (members : Members) (pins : Pins) → pins_of members ≡ Some pins → pins ≡ bare_pins pins.rd pins.rs1 pins.rs2 pins.imm
 pins_alone members pins e =
-    let rd = both_found (given_by register (get_member (codes "rd") members)) _ pins e in
-    let rs1 = both_found (given_by register (get_member (codes "rs1") members)) _ pins rd.2 in
-    let rs2 = both_found (given_by register (get_member (codes "rs2") members)) _ pins rs1.2 in
-    let imm = both_found (given_by integer (get_member (codes "imm") members)) _ pins rs2.2 in
+    let rd = found (given_by register (get_member (codes "rd") members)) _ pins e in
+    let rs1 = found (given_by register (get_member (codes "rs1") members)) _ pins rd.2 in
+    let rs2 = found (given_by register (get_member (codes "rs2") members)) _ pins rs1.2 in
+    let imm = found (given_by integer (get_member (codes "imm") members)) _ pins rs2.2 in
     let is_pins : bare_pins rd.0 rs1.0 rs2.0 imm.0 ≡ pins = same_Some _ _ imm.2 in
     subst (λ (p : Pins). p ≡ bare_pins p.rd p.rs1 p.rs2 p.imm) is_pins refl
 
 -- a request that is accepted can be made
 request_makeable : (value : Data) (request : Request) → request_of value ≡ Some request → IsMakeableRequest request
 request_makeable value request e =
-    let members = both_found (as_object value) _ request e in
-    let name = both_found (text_at (codes "ins") members.0) _ request members.2 in
-    let ins = both_found (ins_called name.0) _ request name.2 in
-    let pins = both_found (pins_of members.0) _ request ins.2 in
+    let members = found (as_object value) _ request e in
+    let name = found (text_at (codes "ins") members.0) _ request members.2 in
+    let ins = found (ins_called name.0) _ request name.2 in
+    let pins = found (pins_of members.0) _ request ins.2 in
     let passed = cond_some _ _ request pins.2 in
     subst IsMakeableRequest passed.1 (record { whole = (and_parts _ _ passed.0).1; alone = pins_alone members.0 pins.0 pins.1 })
 
@@ -54,8 +50,8 @@ items_makeable no_values items e =
     let none : no_items ≡ items = same_Some _ _ e in
     rw (← none) (tt, refl)
 items_makeable (item value values) items e =
-    let first = both_found (request_of value) _ items e in
-    let others = both_found (items_of values) _ items first.2 in
+    let first = found (request_of value) _ items e in
+    let others = found (items_of values) _ items first.2 in
     let all : one first.0 others.0 ≡ items = same_Some _ _ others.2 in
     let rest = items_makeable values others.0 others.1 in
     rw (← all) (((request_makeable value first.0 first.1, refl), rest.0), ap suc rest.1)
@@ -63,19 +59,19 @@ items_makeable (item value values) items e =
 -- an accepted template has no more items than its code page has room for
 template_has_room : (hart : Data) (values : Values) → template_at hart ≡ Some values → items_len values ≤ most_requests
 template_has_room hart values e =
-    let members = both_found (object_of 3 hart) _ values e in
-    let mode = both_found (text_at (codes "mode") members.0) _ values members.2 in
-    let code_pages = both_found (natural_at (codes "code_pages") members.0) _ values mode.2 in
-    let template = both_found (get_member (codes "template") members.0) _ values code_pages.2 in
-    let listed = both_found (as_array template.0) _ values template.2 in
+    let members = found (object_of 3 hart) _ values e in
+    let mode = found (text_at (codes "mode") members.0) _ values members.2 in
+    let code_pages = found (natural_at (codes "code_pages") members.0) _ values mode.2 in
+    let template = found (get_member (codes "template") members.0) _ values code_pages.2 in
+    let listed = found (as_array template.0) _ values template.2 in
     let passed = cond_some _ _ values listed.2 in
     rw (← passed.1) (leb-true _ _ (and_parts _ _ passed.0).1)
 
 -- an accepted hart is a plain one
 hart_plain : (value : Data) (hart : HartPlan) → hart_of value ≡ Some hart → IsPlainHart hart
 hart_plain value hart e =
-    let values = both_found (template_at value) _ hart e in
-    let items = both_found (items_of values.0) _ hart values.2 in
+    let values = found (template_at value) _ hart e in
+    let items = found (items_of values.0) _ hart values.2 in
     let made = items_makeable values.0 items.0 items.1 in
     let room = template_has_room value values.0 values.1 in
     let is_hart : record no_hart { template = items.0 } ≡ hart = same_Some _ _ items.2 in
@@ -88,8 +84,8 @@ harts_plain no_values harts e =
     let none : [] ≡ harts = same_Some _ _ e in
     rw (← none) (tt, refl)
 harts_plain (item value values) harts e =
-    let first = both_found (hart_of value) _ harts e in
-    let others = both_found (harts_of values) _ harts first.2 in
+    let first = found (hart_of value) _ harts e in
+    let others = found (harts_of values) _ harts first.2 in
     let all : first.0 ∷ others.0 ≡ harts = same_Some _ _ others.2 in
     let rest = harts_plain values others.0 others.1 in
     rw (← all) ((hart_plain value first.0 first.1, rest.0), ap suc rest.1)
@@ -97,10 +93,10 @@ harts_plain (item value values) harts e =
 -- an accepted job has 1 to 16 harts
 harts_in_range : (value : Data) (values : Values) → harts_at value ≡ Some values → (1 ≤ items_len values) × (items_len values ≤ most_harts)
 harts_in_range value values e =
-    let members = both_found (object_of 2 value) _ values e in
-    let version = both_found (natural_at (codes "version") members.0) _ values members.2 in
-    let harts = both_found (get_member (codes "harts") members.0) _ values version.2 in
-    let listed = both_found (as_array harts.0) _ values harts.2 in
+    let members = found (object_of 2 value) _ values e in
+    let version = found (natural_at (codes "version") members.0) _ values members.2 in
+    let harts = found (get_member (codes "harts") members.0) _ values version.2 in
+    let listed = found (as_array harts.0) _ values harts.2 in
     let passed = cond_some _ _ values listed.2 in
     let most = and_parts _ _ passed.0 in
     rw (← passed.1) (leb-true _ _ (and_parts _ _ most.0).1, leb-true _ _ most.1)
@@ -108,8 +104,8 @@ harts_in_range value values e =
 -- the job of an accepted value keeps the rules
 job_keeps_rules : (value : Data) (work : Work) → job_of value ≡ Some work → KeepsRules work
 job_keeps_rules value work e =
-    let values = both_found (harts_at value) _ work e in
-    let harts = both_found (harts_of values.0) _ work values.2 in
+    let values = found (harts_at value) _ work e in
+    let harts = found (harts_of values.0) _ work values.2 in
     let plain = harts_plain values.0 harts.0 harts.1 in
     let range = harts_in_range value values.0 values.1 in
     let is_work : work_with harts.0 ≡ work = same_Some _ _ harts.2 in

@@ -6,11 +6,12 @@ use Rattle.serde_json.specs.Events.{items_len, members_len}
 use Rattle.serde_json.specs.Find.{as_array, as_object, get_member}
 use Rattle.rv_fields.specs.declared.row_table.Ins.{Ins}
 use Rattle.rv_fields.specs.Attempt.{◌>>=◌}
+use Rattle.rv_fields.specs.Play.{most_harts}
 use Rattle.rv_fields.specs.RowTable.{ins_called}
 use Rattle.region_plan.specs.Pinned.{bare_pins, is_fully_pinned}
-use Rattle.region_plan.specs.Plan.{HartPlan, Work, no_hart}
+use Rattle.region_plan.specs.Plan.{HartPlan, Work, no_hart, plain_code_pages}
 use Rattle.region_plan.specs.Request.{Items, Pins, Request, a_plain, an_ins, named_ins, no_items, one}
-use Rattle.region_plan.specs.Rules.{most_harts, most_requests}
+use Rattle.region_plan.specs.Rules.{most_requests}
 use Rattle.region_plan.specs.Views.{work_with}
 use Rattle.json_keys.specs.Json.{document, integer, natural, natural_at, object_of, text_at}
 
@@ -66,7 +67,7 @@ items_of (item value values) = do
   items ← items_of values
   Some (one request items)
 
--- the template of {"mode":"M","code_pages":1,"template":[..]}, of at most 1,000 items
+-- the template of {"mode":"M","code_pages":1,"template":[..]}, with no more items than a template may have
 abbrev pub template_at : Data → Option Values
 template_at hart = do
   members ← object_of 3 hart
@@ -74,7 +75,7 @@ template_at hart = do
   code_pages ← natural_at (codes "code_pages") members
   template ← get_member (codes "template") members
   values ← as_array template
-  if bytes_eq mode (codes "M") && (code_pages == 1) && nat_le (items_len values) most_requests
+  if bytes_eq mode (codes "M") && (code_pages == plain_code_pages) && nat_le (items_len values) most_requests
       then Some values
       else None
 
@@ -93,7 +94,7 @@ harts_of (item value values) = do
   harts ← harts_of values
   Some (hart ∷ harts)
 
--- the harts of {"version":1,"harts":[..]}, 1 to 16
+-- the harts of {"version":1,"harts":[..]}, at least one
 abbrev pub harts_at : Data → Option Values
 harts_at value = do
   members ← object_of 2 value

@@ -6,16 +6,10 @@ ghost use Rattle.job_read.specs.Accepted.{template_at, hart_of, harts_of, harts_
 
 use crate::requests::items_of;
 use json_keys::{InputFault, natural_at, object_of, text_at, value_at};
-use region_plan::{HartPlan, Item, Job, Plan};
-use rv_fields::Mode;
+use region_plan::{HartPlan, Item, Job, MOST_REQUESTS, PLAIN_CODE_PAGES, Plan};
+use rv_fields::{MOST_HARTS, Mode};
 use serde_json::Value;
 use std::alloc::Global;
-
-/// The most harts that a job has.
-const MOST_HARTS: usize = 16;
-
-/// The most requests that a template has.
-const MOST_REQUESTS: usize = 1000;
 
 /// The harts of a job.
 #[tactic(auto, using(json_keys::proofs::Reading::lengths))]
@@ -54,7 +48,7 @@ fn hart_of(alloc: Global, value: &Value) -> Result<(HartPlan, Vec<Item>), InputF
     let template = items_of(alloc, values)?;
     let hart = HartPlan {
         mode: Mode::M,
-        code_pages: 1,
+        code_pages: PLAIN_CODE_PAGES,
     };
     Ok((hart, template))
 }
@@ -68,7 +62,7 @@ fn template_at(hart: &Value) -> Option<&[Value]>
     let mode = text_at("mode", members)?;
     let code_pages = natural_at("code_pages", members)?;
     let values = value_at("template", members)?.as_array()?;
-    if mode == "M" && code_pages == 1 && values.len() <= MOST_REQUESTS {
+    if mode == "M" && code_pages == u64::from(PLAIN_CODE_PAGES) && values.len() <= MOST_REQUESTS {
         Some(values.as_slice())
     } else {
         None

@@ -1,6 +1,6 @@
 use super::*;
-use region_plan::{HartPlan, InsChoice, Item, Pins, Request};
-use rv_fields::{Ins, Mode};
+use region_plan::{HartPlan, InsChoice, Item, MOST_REQUESTS, Pins, Request};
+use rv_fields::{Ins, MOST_HARTS, Mode};
 use std::alloc::{AllocError, Global};
 use std::test::*;
 
@@ -126,10 +126,16 @@ fn reads_two_harts_in_order(rt: HostRuntime) -> Result<(), Fail> {
 }
 
 #[test]
-fn reads_up_to_16_harts(rt: HostRuntime) -> Result<(), Fail> {
-    let most = file_of(rt.alloc(), list_of(rt.alloc(), HART, 16)?.as_str())?;
-    assert_eq!(rt; read_job(rt.alloc(), most.as_bytes())?.hart_count(), 16);
-    let more = file_of(rt.alloc(), list_of(rt.alloc(), HART, 17)?.as_str())?;
+fn reads_up_to_the_most_harts(rt: HostRuntime) -> Result<(), Fail> {
+    let most = file_of(rt.alloc(), list_of(rt.alloc(), HART, MOST_HARTS)?.as_str())?;
+    assert_eq!(rt;
+        read_job(rt.alloc(), most.as_bytes())?.hart_count(),
+        MOST_HARTS
+    );
+    let more = file_of(
+        rt.alloc(),
+        list_of(rt.alloc(), HART, MOST_HARTS + 1)?.as_str(),
+    )?;
     assert!(rt; is_not_built(rt.alloc(), more.as_str()));
     Ok(())
 }
@@ -163,12 +169,18 @@ fn reads_an_empty_template(rt: HostRuntime) -> Result<(), Fail> {
 }
 
 #[test]
-fn reads_up_to_1000_requests(rt: HostRuntime) -> Result<(), Fail> {
-    let most = job_of(rt.alloc(), list_of(rt.alloc(), ADDI, 1000)?.as_str())?;
+fn reads_up_to_the_most_requests(rt: HostRuntime) -> Result<(), Fail> {
+    let most = job_of(
+        rt.alloc(),
+        list_of(rt.alloc(), ADDI, MOST_REQUESTS)?.as_str(),
+    )?;
     let job = read_job(rt.alloc(), most.as_bytes())?;
     assert_eq!(rt; job.hart_count(), 1);
-    assert_eq!(rt; job.template(0).len(), 1000);
-    let more = job_of(rt.alloc(), list_of(rt.alloc(), ADDI, 1001)?.as_str())?;
+    assert_eq!(rt; job.template(0).len(), MOST_REQUESTS);
+    let more = job_of(
+        rt.alloc(),
+        list_of(rt.alloc(), ADDI, MOST_REQUESTS + 1)?.as_str(),
+    )?;
     assert!(rt; is_not_built(rt.alloc(), more.as_str()));
     Ok(())
 }

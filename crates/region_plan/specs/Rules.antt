@@ -1,6 +1,7 @@
 -- The rules that a job keeps, by which its run is sure to answer it.
 use Rattle.std.specs.Prelude.{ℕ, ◌≡◌, ◌≤◌, length}
 use Rattle.std.specs.List.{AllByRecursion}
+use Rattle.rv_fields.specs.Play.{most_harts}
 use Rattle.region_plan.specs.Pinned.{IsFullyPinned}
 use Rattle.region_plan.specs.Plan.{HartPlan, Work, hart_count, no_hart}
 use Rattle.region_plan.specs.Request.{InsChoice, Pins, Plain, Request, a_csr, a_jump, a_loop, a_mem, a_pick, a_plain, a_set, a_sys, a_value, an_ins, by_tree, named_ins, no_arms}
@@ -38,10 +39,6 @@ pub record IsPlainHart (hart : HartPlan) : Type 0 where
   pub plain : hart ≡ record no_hart { template = hart.template }
   pub room : length (script_of hart.template) ≤ most_requests
   pub requests : AllByRecursion IsMakeable (script_of hart.template)
-
--- the most harts that a job has
-abbrev pub most_harts : ℕ
-most_harts = 16
 
 pub record KeepsRules (work : Work) : Type 0 where
   pub some : 1 ≤ hart_count work

@@ -10,7 +10,7 @@ use Rattle.region_plan.specs.declared.request.Item.TheVariants.{One}
 use Rattle.region_plan.specs.declared.request.Pins as pinned
 use Rattle.region_plan.specs.declared.request.Request as asked
 use Rattle.region_plan.specs.declared.request.Request.TheVariants.{Ins}
-use Rattle.region_plan.specs.Plan.{HartPlan, Work, hart_count, no_hart, plan_of}
+use Rattle.region_plan.specs.Plan.{HartPlan, Work, hart_count, no_hart, plan_of, plain_code_pages}
 use Rattle.region_plan.specs.Request.{InsChoice, Items, Pins, Request, a_plain, an_ins, named_ins, no_items, one}
 
 abbrev pub choice_seen : choice.InsChoice → InsChoice
@@ -38,7 +38,7 @@ harts_seen (hart ∷ harts) (template ∷ templates) = hart_seen hart template �
 
 -- a hart of a plan, without its template; beyond the plan it is one of mode M
 abbrev pub plan_at : List code.HartPlan → ℕ → HartPlan
-plan_at harts h = hart_seen (get_or harts h (record { mode = M; code_pages = 1 })) no_items
+plan_at harts h = hart_seen (get_or harts h (record { mode = M; code_pages = plain_code_pages })) no_items
 
 -- The plan has as many harts as the work, and says of each what the work says, but for its template.
 pub record IsPlannedBy (harts : List code.HartPlan) (work : Work) : Type 0 where

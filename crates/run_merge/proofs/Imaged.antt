@@ -9,7 +9,7 @@ use Rattle.rv_fields.specs.Play.{most_harts}
 use Rattle.trace_text.specs.Lines.{Line, starting}
 use Rattle.region_plan.specs.Plan.{Work, hart_count, plan_of}
 use Rattle.boot_words.specs.Boot.{dispatcher, boot_block, boot_csrs, boot_registers}
-use Rattle.boot_words.specs.Layout.{boot_block_at, code_address, dispatcher_at, m_handler_at}
+use Rattle.boot_words.specs.Layout.{boot_block_at, code_address, dispatcher_at, m_handler_at, code_windows_at}
 use Rattle.ram_image.specs.Pieces.{byte_in, filled, laid}
 use Rattle.ram_image.specs.Segments.{Stretch, memory_of}
 use Rattle.hart_task.specs.Blocks.{made_by}
@@ -55,7 +55,7 @@ codes work lines harts are a = by (byte_in (code_pieces lines) a) refl
             let made = (are.words k i among).no_others index word has in
             in_pieces (filter_map made_by lines) made.0 j a made.1 small (omega (arith, made.3, at)) (sym is)
 
-code_from : (work : Work) (lines : List Line) (harts : List HartImage) → AreImagesOf work lines harts → LieFrom 0x84000000 (code_pieces lines)
+code_from : (work : Work) (lines : List Line) (harts : List HartImage) → AreImagesOf work lines harts → LieFrom code_windows_at (code_pieces lines)
 code_from work lines harts are a below = by (byte_in (code_pieces lines) a) refl
   where
     by : (o : Option ℕ) → o ≡ byte_in (code_pieces lines) a → o ≡ None
@@ -120,10 +120,10 @@ startup_same work lines harts are =
 pub behind_startup : (work : Work) (lines : List Line) (harts : List HartImage) → AreImagesOf work lines harts → LieFrom m_handler_at (handler_pieces ++ code_pieces lines)
 behind_startup work lines harts are =
     lie_append m_handler_at handler_pieces (code_pieces lines) (none_below m_handler_at handler_pieces (m_handler_at + 0x2000) handlers_laid)
-    (lie_within 0x84000000 m_handler_at (code_pieces lines) (code_from work lines harts are) (lit≤ tt))
+    (lie_within code_windows_at m_handler_at (code_pieces lines) (code_from work lines harts are) (lit≤ tt))
 
 pub behind_handlers : (work : Work) (lines : List Line) (harts : List HartImage) → AreImagesOf work lines harts → LieFrom (m_handler_at + 0x2000) (code_pieces lines)
-behind_handlers work lines harts are = lie_within 0x84000000 (m_handler_at + 0x2000) (code_pieces lines) (code_from work lines harts are) (lit≤ tt)
+behind_handlers work lines harts are = lie_within code_windows_at (m_handler_at + 0x2000) (code_pieces lines) (code_from work lines harts are) (lit≤ tt)
 
 pub program_is_image : (work : Work) (lines : List Line) (harts : List HartImage) → AreImagesOf work lines harts → hart_count work ≤ most_harts
     → (a : ℕ) → memory_of (program work harts) a ≡ image work lines a

@@ -15,7 +15,7 @@ use Rattle.choice_tree.specs.Forest.{Forest}
 use Rattle.region_plan.specs.Plan.{Work}
 use Rattle.region_plan.specs.Request.{no_items}
 use Rattle.boot_words.specs.Boot.{handler}
-use Rattle.boot_words.specs.Layout.{m_handler_at, s_handler_at}
+use Rattle.boot_words.specs.Layout.{m_handler_at, s_handler_at, code_windows_at}
 use Rattle.boot_words.specs.Startup.{start_csrs, start_mode}
 use Rattle.trace_text.specs.Lines.{effects_of, ending}
 use Rattle.world_face.specs.Events.{Event, is_of_hart, no_parts, nothing_asked}
@@ -33,7 +33,7 @@ abbrev pub job : Work
 job = record { budget = 16384; frames = 4096; objects = []; spaces = []; harts = record { mode = M; space = None; code = 0; code_pages = 1; sum = false; tvm = false; deleg = 0; template = no_items } ∷ []; trees = [] }
 
 abbrev pub event : Event
-event = record { hart = 0; parts = no_parts; asked = nothing_asked; lines = ending (record { hart = 0; pc = 0x84000000; pa = Some 0x84000000; word = Some 0x6f; rd = None; access = None; trail = []; trap = None }) ∷ [] }
+event = record { hart = 0; parts = no_parts; asked = nothing_asked; lines = ending (record { hart = 0; pc = code_windows_at; pa = Some code_windows_at; word = Some 0x6f; rd = None; access = None; trail = []; trap = None }) ∷ [] }
 
 pub acts_it : acts job (start job 7 0) event
 unfolding field_of with_field masked written popped pushed ins_at word_of start_csrs start_mode outcome trap_taken step_decoded step
@@ -57,12 +57,12 @@ one_run forest = record {
 
 -- the handlers' bytes
 abbrev pub in_handlers : ℕ → Option ℕ
-in_handlers a = cond (leb m_handler_at a && ltb a 0x80020018) (byte_in_words (listed_words (handler mode.M)) m_handler_at a)
-    (cond (leb s_handler_at a && ltb a 0x80021018) (byte_in_words (listed_words (handler mode.S)) s_handler_at a) None)
+in_handlers a = cond (leb m_handler_at a && ltb a (m_handler_at + 0x18)) (byte_in_words (listed_words (handler mode.M)) m_handler_at a)
+    (cond (leb s_handler_at a && ltb a (s_handler_at + 0x18)) (byte_in_words (listed_words (handler mode.S)) s_handler_at a) None)
 
 -- its memory
 abbrev pub memory : ℕ → ℕ
-memory a = cond (eqb a 0x84000000) 0x6f (unwrap_or (in_handlers a) 0)
+memory a = cond (eqb a code_windows_at) 0x6f (unwrap_or (in_handlers a) 0)
 
 small_words : (words : ℕ → Option ℕ) (at a : ℕ) → unwrap_or (byte_in_words words at a) 0 < 256
 small_words words at a = of (words ((a - at) / 4))
@@ -72,7 +72,7 @@ small_words words at a = of (words ((a - at) / 4))
     of (Some w) = omega arith
 
 small_memory : (a : ℕ) → memory a < 256
-small_memory a = of (eqb a 0x84000000) (leb m_handler_at a && ltb a 0x80020018) (leb s_handler_at a && ltb a 0x80021018)
+small_memory a = of (eqb a code_windows_at) (leb m_handler_at a && ltb a (m_handler_at + 0x18)) (leb s_handler_at a && ltb a (s_handler_at + 0x18))
   where
     of : (t u v : Bool) → cond t 0x6f (unwrap_or (cond u (byte_in_words (listed_words (handler mode.M)) m_handler_at a) (cond v (byte_in_words (listed_words (handler mode.S)) s_handler_at a) None)) 0) < 256
     of true u v = omega arith
@@ -102,16 +102,16 @@ machine = record {
 in_m : (i j w : ℕ) → listed_words (handler mode.M) i ≡ Some w → j < 4 → Some (memory (m_handler_at + 4 * i + j)) ≡ Some (w / 256 ^ j % 256)
 in_m i j w e small =
     let short : i < 6 = listed_short (handler mode.M) i w e in
-    let code : eqb (m_handler_at + 4 * i + j) 0x84000000 ≡ false = grind (arith, nat_tests) in
-    let inside : (leb m_handler_at (m_handler_at + 4 * i + j) && ltb (m_handler_at + 4 * i + j) 0x80020018) ≡ true = grind (arith, nat_tests) in
+    let code : eqb (m_handler_at + 4 * i + j) code_windows_at ≡ false = grind (arith, nat_tests) in
+    let inside : (leb m_handler_at (m_handler_at + 4 * i + j) && ltb (m_handler_at + 4 * i + j) (m_handler_at + 0x18)) ≡ true = grind (arith, nat_tests) in
     rw code (rw inside (ap (λ m. Some (unwrap_or m 0)) (word_bytes (listed_words (handler mode.M)) m_handler_at i j w e small)))
 
 in_s : (i j w : ℕ) → listed_words (handler mode.S) i ≡ Some w → j < 4 → Some (memory (s_handler_at + 4 * i + j)) ≡ Some (w / 256 ^ j % 256)
 in_s i j w e small =
     let short : i < 6 = listed_short (handler mode.S) i w e in
-    let code : eqb (s_handler_at + 4 * i + j) 0x84000000 ≡ false = grind (arith, nat_tests) in
-    let outside : (leb m_handler_at (s_handler_at + 4 * i + j) && ltb (s_handler_at + 4 * i + j) 0x80020018) ≡ false = grind (arith, nat_tests) in
-    let inside : (leb s_handler_at (s_handler_at + 4 * i + j) && ltb (s_handler_at + 4 * i + j) 0x80021018) ≡ true = grind (arith, nat_tests) in
+    let code : eqb (s_handler_at + 4 * i + j) code_windows_at ≡ false = grind (arith, nat_tests) in
+    let outside : (leb m_handler_at (s_handler_at + 4 * i + j) && ltb (s_handler_at + 4 * i + j) (m_handler_at + 0x18)) ≡ false = grind (arith, nat_tests) in
+    let inside : (leb s_handler_at (s_handler_at + 4 * i + j) && ltb (s_handler_at + 4 * i + j) (s_handler_at + 0x18)) ≡ true = grind (arith, nat_tests) in
     rw code (rw outside (rw inside (ap (λ m. Some (unwrap_or m 0)) (word_bytes (listed_words (handler mode.S)) s_handler_at i j w e small))))
 
 pub has_all : HasAll job event.lines machine
@@ -125,7 +125,7 @@ has_all = record {
   harts = λ h small. record { number = refl; pc = refl; mode = refl; csrs = refl; reserved = refl; zero = refl; registers = record { told = λ r. (0, refl) } };
 }
   where
-    word : (j : ℕ) → j < 4 → Some (memory (0x84000000 + j)) ≡ Some (0x6f / 256 ^ j % 256)
+    word : (j : ℕ) → j < 4 → Some (memory (code_windows_at + j)) ≡ Some (0x6f / 256 ^ j % 256)
     word zero small = refl
     word (suc zero) small = refl
     word (suc (suc zero)) small = refl

@@ -1,7 +1,7 @@
 //! Boots that are too short, that trap, and that end otherwise.
 
 use super::files::{Elf, ORDER, SUM, TRACE, first_example, in_mode_m, says};
-use boot_words::{boot_block, dispatcher};
+use boot_words::{DISPATCHER_AT, boot_block, code_start, dispatcher};
 use std::alloc::Global;
 use std::test::*;
 
@@ -45,9 +45,9 @@ fn with_word(alloc: Global, place: usize, word: u32) -> Result<Vec<u8>, Fail> {
         }
     }
     let mut elf = Elf::new(alloc);
-    elf.add_words(alloc, 0x8000_0000, &dispatcher(1))?;
-    elf.add_boot(alloc, 0, &block, &in_mode_m(0x8400_0000, &[]))?;
-    elf.add_words(alloc, 0x8400_0000, &SUM)?;
+    elf.add_words(alloc, DISPATCHER_AT, &dispatcher(1))?;
+    elf.add_boot(alloc, 0, &block, &in_mode_m(code_start(0), &[]))?;
+    elf.add_words(alloc, code_start(0), &SUM)?;
     Ok(elf.finish(alloc)?)
 }
 

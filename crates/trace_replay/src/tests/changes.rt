@@ -3,6 +3,7 @@
 use super::files::{
     ONES, ORDER, Part, SUM, TRACE, ZEROS, first_example, in_mode_m, program, says, says_from,
 };
+use boot_words::code_start;
 use std::alloc::Global;
 use std::process::Abort;
 use std::test::*;
@@ -17,14 +18,14 @@ fn the_first_example_agrees_from_two_resets(rt: HostRuntime) -> Result<(), Fail>
 
 /// The program of the first example for two harts.
 fn two_harts(alloc: Global) -> Result<Vec<u8>, Fail> {
-    let starts = [in_mode_m(0x8400_0000, &[]), in_mode_m(0x8410_0000, &[])];
+    let starts = [in_mode_m(code_start(0), &[]), in_mode_m(code_start(1), &[])];
     let codes = [
         Part {
-            at: 0x8400_0000,
+            at: code_start(0),
             words: &SUM,
         },
         Part {
-            at: 0x8410_0000,
+            at: code_start(1),
             words: &SUM,
         },
     ];

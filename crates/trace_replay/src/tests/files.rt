@@ -1,10 +1,14 @@
 //! The three files of a replay: how tests write a program, and what the verdict on them says.
 
 ghost use Rattle.std.specs.Prelude.{◌≤◌, length};
+ghost use Rattle.rv_fields.specs.Play.{most_harts};
 
 use crate::{Reset, replay};
-use boot_words::{boot_block, boot_block_at, boot_csrs_at, dispatcher, handler};
-use rv_fields::{Mode, NoMemory};
+use boot_words::{
+    DISPATCHER_AT, M_HANDLER_AT, boot_block, boot_block_at, boot_csrs_at, code_start, dispatcher,
+    handler,
+};
+use rv_fields::{Mode, NoMemory, RESET_PC};
 use std::alloc::Global;
 use std::process::Abort;
 use std::test::*;
@@ -91,7 +95,7 @@ impl Elf {
     /// Adds the table from which a hart boots: 15 CSRs, and then x1 and so on.
     fn add_table(&mut self, alloc: Global, at: u64, start: &Start) -> Result<(), NoMemory> {
         let mut values = Vec::new(alloc);
-        values.extend_from_slice(&[start.mstatus, 0, 0, 0, 0x8002_0000, 0, start.mepc])?;
+        values.extend_from_slice(&[start.mstatus, 0, 0, 0, M_HANDLER_AT, 0, start.mepc])?;
         values.extend_from_slice(&[0x3f_ffff_f000, 0, 0, 0, 0, start.satp])?;
         values.extend_from_slice(&[0x3f_ffff_ffff_ffff, 0x1f])?;
         values.extend_from_slice(start.x)?;
@@ -123,7 +127,7 @@ impl Elf {
             0x0001_0102_464c_457f,
             0,
             0x1_00f3_0002,
-            0x8000_0000,
+            RESET_PC,
             64,
             0,
             0x38_0040_0000_0000,
@@ -140,7 +144,7 @@ impl Elf {
 
 /// A program for harts that start like this, with these parts beside what every program has.
 pub fn program(alloc: Global, starts: &[Start], parts: &[Part]) -> Result<Vec<u8>, NoMemory>
-    requires { length starts.now ≤ 16 }
+    requires { length starts.now ≤ most_harts }
 {
     let mut elf = begun(alloc, starts)?;
     for part in parts {
@@ -151,11 +155,11 @@ pub fn program(alloc: Global, starts: &[Start], parts: &[Part]) -> Result<Vec<u8
 
 /// What every program has: the dispatcher, the handler of mode M, and the boots.
 fn begun(alloc: Global, starts: &[Start]) -> Result<Elf, NoMemory>
-    requires { length starts.now ≤ 16 }
+    requires { length starts.now ≤ most_harts }
 {
     let mut elf = Elf::new(alloc);
-    elf.add_words(alloc, 0x8000_0000, &dispatcher(starts.len() as u8))?;
-    elf.add_words(alloc, 0x8002_0000, &handler(Mode::M))?;
+    elf.add_words(alloc, DISPATCHER_AT, &dispatcher(starts.len() as u8))?;
+    elf.add_words(alloc, M_HANDLER_AT, &handler(Mode::M))?;
     for (hart, start) in starts.iter().enumerate() {
         elf.add_boot(alloc, hart as u8, &boot_block(), start)?;
     }
@@ -167,9 +171,9 @@ pub const SUM: [u32; 2] = [0x0050_0093, 0x0000_006f];
 
 /// The program of the first example.
 pub fn first_example(alloc: Global) -> Result<Vec<u8>, NoMemory> {
-    let start = in_mode_m(0x8400_0000, &[]);
+    let start = in_mode_m(code_start(0), &[]);
     let code = Part {
-        at: 0x8400_0000,
+        at: code_start(0),
         words: &SUM,
     };
     program(alloc, &[start], &[code])
