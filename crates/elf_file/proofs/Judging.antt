@@ -58,7 +58,7 @@ no_fault_written file ss fault few sound is some =
     let none : Some (memory_of ss 0) ≡ None = sym (load-elf_of ss 0 few sound) ∙ ap (λ f. load f 0) (sym is) ∙ unloaded_with_fault file fault 0 some in
     (cc)
 
--- a fault that can't be any other is want of memory
+-- a fault that can't be any other is out of memory
 pub only_memory : (fault : ElfFault) → (fault ≢ Memory → ⊥) → fault ≡ Memory
 only_memory (Short at) never = absurd (never (λ is. (cc)))
 only_memory NotElf never = absurd (never (λ is. (cc)))

@@ -74,7 +74,7 @@ tests file = header_tests file ++ (flat_map (segment_tests file) (loads file) ++
 abbrev pub fault_of : List ℕ → Option ElfFault
 fault_of file = first_fault (tests file)
 
--- The answer tells the fault; want of memory may come in its place, or where there is none.
+-- The answer tells the fault; memory may run out in its place, or where there is none.
 abbrev pub Finds : {A : Type 0} → Result A ElfFault → Option ElfFault → Type 0
 Finds (Ok x) fault = fault ≡ None
 Finds (Err e) fault = e ≢ Memory → fault ≡ Some e

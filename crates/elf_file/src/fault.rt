@@ -63,7 +63,7 @@ pub enum ElfFault {
     OutsideRam { segment: u32 },
     /// The segments share an address, and `a` is the earlier one.
     Clash { a: u32, b: u32 },
-    /// Want of memory.
+    /// Out of memory.
     Memory,
 }
 

@@ -285,7 +285,7 @@ fn no_bytes_lie_anywhere(rt: HostRuntime) -> Result<(), Fail> {
 }
 
 #[test]
-fn want_of_memory_is_told(rt: HostRuntime) -> Result<(), Fail> {
+fn out_of_memory_is_told(rt: HostRuntime) -> Result<(), Fail> {
     assert_eq!(rt;
         format!(in rt.alloc(); "{}", ElfFault::from(NoMemory))?.as_str(),
         "out of memory"

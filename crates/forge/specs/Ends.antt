@@ -31,7 +31,7 @@ pub data Ending : Type 0 where
   -- the trace, which has so many step lines, tells what the program does; or this is the first difference
   agrees : ℕ → Ending
   differs : Difference → Ending
-  -- the words are no command's
+  -- the words are not a command
   usage : Ending
   -- the file of this name can't be read, or can't be written
   unread : List ℕ → Ending
@@ -53,11 +53,15 @@ status_of (refused name reason) = 6
 status_of (too_long name most) = 7
 status_of out_of_memory = 8
 
+-- the line that names the commands, also those that are to come, without its newline
+abbrev pub usage_text : List ℕ
+usage_text = codes "usage: make|make-serial JOB TREES SEED ELF ORDER TRACE; replay ELF ORDER TRACE; big N JOB TREES; check JOB TREES"
+
 abbrev pub printed : Ending → List ℕ
 printed (made harts lines) = counts_text harts lines
 printed (agrees steps) = codes "agrees " ++ decimal steps ++ codes " steps\n"
 printed (differs difference) = difference_text difference ++ codes "\n"
-printed usage = codes "usage: make|make-serial JOB TREES SEED ELF ORDER TRACE; replay ELF ORDER TRACE; big N JOB TREES; check JOB TREES\n"
+printed usage = usage_text ++ codes "\n"
 printed (unread name) = codes "cannot read " ++ name ++ codes "\n"
 printed (unwritten name) = codes "cannot write " ++ name ++ codes "\n"
 printed (refused name reason) = name ++ codes ": " ++ reason ++ codes "\n"
@@ -256,7 +260,7 @@ Causes c old new (too_long name most) = Unchanged old new × OfInputs c old (λ 
 -- before the first write, or within a write
 Causes c old new out_of_memory = Unchanged old new ⊎ StopsWriting c old new
 
--- where the words are no command's, the store is left alone
+-- where the words are not a command, the store is left alone
 abbrev pub NoCommand : State → State → Ending → Type 0
 NoCommand old new ending = (new ≡ old) × ((ending ≡ usage) ⊎ (ending ≡ out_of_memory))
 

@@ -19,7 +19,7 @@ use Rattle.forge.specs.declared.stop.Stop.{Stop}
 use Rattle.forge.specs.declared.stop.Stop.TheVariants.{Usage, Unread, Unwritten, Refused, TooLong, Memory}
 use Rattle.forge.specs.Words.{Command, Making, Replaying, command_of, make_serial, replay}
 use Rattle.forge.specs.Generated.{IsCountOf}
-use Rattle.forge.specs.Ends.{Ending, usage, unread, unwritten, refused, too_long, out_of_memory, status_of, printed, inputs, most_bytes, length_fault, form_fault, input_fault, AreHeld, Output, LeftBy, IsRunFrom, Makes, Causes, NoCommand}
+use Rattle.forge.specs.Ends.{Ending, usage, unread, unwritten, refused, too_long, out_of_memory, status_of, printed, inputs, most_bytes, length_fault, form_fault, input_fault, AreHeld, Output, LeftBy, IsRunFrom, Makes, Causes, NoCommand, usage_text}
 
 -- ---- commands
 
@@ -72,7 +72,7 @@ stop_ending r faults.Memory = out_of_memory
 
 -- the line of a stop, without its newline
 abbrev pub stop_body : Stop → List ℕ
-stop_body Usage = codes "usage: make|make-serial JOB TREES SEED ELF ORDER TRACE; replay ELF ORDER TRACE; big N JOB TREES; check JOB TREES"
+stop_body Usage = usage_text
 stop_body (Unread name) = codes "cannot read " ++ name.now
 stop_body (Unwritten name) = codes "cannot write " ++ name.now
 stop_body (Refused name reason) = name.now ++ codes ": " ++ reason_body reason

@@ -10,6 +10,9 @@ use std::fmt;
 use store_face::StoreFault;
 use trace_fields::LineFault;
 
+/// The line that names the commands, also those that are to come, without its newline.
+pub(crate) const USAGE: &str = "usage: make|make-serial JOB TREES SEED ELF ORDER TRACE; replay ELF ORDER TRACE; big N JOB TREES; check JOB TREES";
+
 /// Why a file isn't accepted.
 #[derive(Clone, Copy, Debug, PartialEq, Eq)]
 pub(crate) enum Reason {
@@ -38,7 +41,7 @@ impl fmt::Display for Reason {
 /// Why a command ends without success.
 #[derive(Clone, Copy, Debug, PartialEq, Eq)]
 pub(crate) enum Stop<'a> {
-    /// The words are no command's.
+    /// The words are not a command.
     Usage,
     /// The file of the name can't be read.
     Unread(&'a str),
@@ -48,7 +51,7 @@ pub(crate) enum Stop<'a> {
     Refused { name: &'a str, reason: Reason },
     /// The file of the name has more bytes than so many.
     TooLong { name: &'a str, most: usize },
-    /// Want of memory.
+    /// Out of memory.
     Memory,
 }
 
@@ -131,10 +134,7 @@ impl fmt::Display for Stop<'_> {
 
     fn fmt<W: fmt::Write>(&self, f: &mut fmt::Formatter<W>) -> fmt::Result {
         match self {
-            Stop::Usage => write!(
-                f,
-                "usage: make|make-serial JOB TREES SEED ELF ORDER TRACE; replay ELF ORDER TRACE; big N JOB TREES; check JOB TREES"
-            ),
+            Stop::Usage => f.write_str(USAGE),
             Stop::Unread(name) => write!(f, "cannot read {name}"),
             Stop::Unwritten(name) => write!(f, "cannot write {name}"),
             Stop::Refused { name, reason } => write!(f, "{name}: {reason}"),

@@ -1,6 +1,7 @@
 ghost use Rattle.std.specs.Prelude.{◌<◌};
 
 use crate::plain_top;
+use crate::stop::USAGE;
 use std::alloc::{AllocError, Global};
 use std::process::Abort;
 use std::test::Fail;
@@ -11,9 +12,6 @@ mod faults;
 mod harts;
 mod replays;
 mod rows;
-
-const USAGE: &str =
-    "usage: make|make-serial JOB TREES SEED ELF ORDER TRACE; replay ELF ORDER TRACE; big N JOB TREES; check JOB TREES\n";
 
 /// The words of the command that the tests run.
 const WORDS: [&str; 7] = ["make-serial", "j", "t", "7", "e", "o", "r"];
@@ -77,6 +75,17 @@ fn assert_ends(
     assert_eq!(rt; ended, status, "{line}");
     assert!(rt; out.as_slice() == line.as_bytes(), "{line}");
     Ok(())
+}
+
+/// Asserts that the words are not a command: the usage line is printed.
+fn assert_usage(
+    rt: &impl Abort,
+    alloc: Global,
+    words: &[&str],
+    store: &mut MemStore,
+) -> Result<(), Fail> {
+    let line = format!(in alloc; "{USAGE}\n")?;
+    assert_ends(rt, alloc, words, store, 3, line.as_str())
 }
 
 /// Makes the files of the job, without trees, under the seed, and asserts what is printed. The store has them.
@@ -260,7 +269,7 @@ fn other_words_are_no_command(rt: HostRuntime) -> Result<(), Fail> {
     ];
     for words in lines {
         let mut store = holding(rt.alloc(), JOB, TREES)?;
-        assert_ends(&rt, rt.alloc(), words, &mut store, 3, USAGE)?;
+        assert_usage(&rt, rt.alloc(), words, &mut store)?;
         assert_eq!(rt; store.calls, 0);
     }
     Ok(())

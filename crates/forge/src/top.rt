@@ -15,12 +15,12 @@ use store_face::Store;
 /// |---|---|
 /// | 0 | the three files are written, or the trace tells what the program does |
 /// | 1 | the trace tells otherwise than the program does |
-/// | 3 | the words are no command's |
+/// | 3 | the words are not a command |
 /// | 4 | a file can't be read |
 /// | 5 | a file can't be written |
 /// | 6 | an input file isn't accepted |
 /// | 7 | an input file is too long |
-/// | 8 | want of memory; nothing is printed |
+/// | 8 | out of memory; nothing is printed |
 pub fn plain_top<S: Store>(alloc: Global, words: &[String], store: &mut S, out: &mut Vec<u8>) -> u8
     ensures { Ends (map string_bytes words.now) (S.state store.old) (S.state store.new) result out.new.items }
 {
@@ -43,8 +43,8 @@ fn run<'a, S: Store>(
     command.run(alloc, store, out)
 }
 
-/// Tells of the stop in `out`, in place of what it holds: the exit status, which is that of want of memory where there
-/// is none for the line.
+/// Tells of the stop in `out`, in place of what it holds: the exit status, which is 8, out of memory, where there is
+/// none for the line.
 fn tell(alloc: Global, stop: Stop, out: &mut Vec<u8>) -> u8
     ensures { IsTold (ending_of stop.entry) result out.new.items ⊎ IsTold out_of_memory result out.new.items }
 {

@@ -9,7 +9,7 @@ use std::process::ExitCode;
 use std::rt::Env;
 use store_face::RealStore;
 
-/// The exit status where memory is wanting.
+/// The exit status where the program is out of memory.
 const OUT_OF_MEMORY: u8 = 8;
 
 fn main(rt: HostRuntime) -> ExitCode {
@@ -24,7 +24,7 @@ fn main(rt: HostRuntime) -> ExitCode {
     ExitCode::from(status)
 }
 
-/// The words after the program's name. Where one isn't UTF-8 there are none, which is no command either.
+/// The words after the program's name. Where one isn't UTF-8 there are none, which is not a command either.
 fn command_words<R: Env + AllocGlobal>(rt: &R) -> Result<Vec<String>, AllocError> {
     match env::args(rt) {
         Ok(words) => words.skip(1).collect(rt.alloc()),

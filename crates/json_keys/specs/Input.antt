@@ -3,7 +3,7 @@ use Rattle.std.specs.Prelude.{◌≡◌, ℕ, List, codes, Option, Some, None, R
 use Rattle.json_keys.specs.declared.input.InputFault.{InputFault}
 use Rattle.json_keys.specs.declared.input.InputFault.TheVariants.{NotBuilt, Memory}
 
--- A result, seen by view, is what the file spells: NotBuilt exactly where it spells nothing. Want of memory may come anywhere.
+-- A result, seen by view, is what the file spells: NotBuilt exactly where it spells nothing. Memory may run out anywhere.
 abbrev pub Reads : {X Y : Type 0} → (X → Y) → Result X InputFault → Option Y → Type 0
 Reads view (Ok x) spelled = spelled ≡ Some (view x)
 Reads view (Err NotBuilt) spelled = spelled ≡ None

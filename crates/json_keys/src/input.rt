@@ -10,7 +10,7 @@ use std::fmt;
 pub enum InputFault {
     /// It holds what this program can't do yet, or nothing that it knows.
     NotBuilt,
-    /// Want of memory.
+    /// Out of memory.
     Memory,
 }
 

@@ -9,7 +9,7 @@ use std::alloc::AllocError;
 pub enum StoreFault {
     /// The read or the write failed. The store has counted it.
     Failed,
-    /// Want of memory.
+    /// Out of memory.
     Memory,
 }
 

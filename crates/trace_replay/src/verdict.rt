@@ -102,8 +102,8 @@ impl fmt::Display for Verdict {
     }
 }
 
-/// Why files are not compared: the fault of the first of them that isn't in its form, or want of memory. The faults that are handed on
-/// are never want of memory themselves.
+/// Why files are not compared: the fault of the first of them that isn't in its form, or that memory ran out. The faults that are
+/// handed on are never out of memory themselves.
 #[derive(Clone, Copy, Debug, PartialEq, Eq)]
 pub enum ReplayFault {
     Elf(ElfFault),

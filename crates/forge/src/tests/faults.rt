@@ -1,7 +1,7 @@
-//! What each status leaves: calls of the store that fail, files that aren't there, words that are no command's.
+//! What each status leaves: calls of the store that fail, files that aren't there, words that are not a command.
 
 use super::{
-    JOB, LINE, ORDER, TRACE, TREES, USAGE, WORDS, assert_ends, assert_holds, assert_made, holding,
+    JOB, LINE, ORDER, TRACE, TREES, WORDS, assert_ends, assert_holds, assert_made, assert_usage, holding,
     owned,
 };
 use crate::plain_top;
@@ -113,10 +113,10 @@ fn counts_at_their_end_are_no_fault(rt: HostRuntime) -> Result<(), Fail> {
     assert_whole(&rt, &store, &elf, 3)
 }
 
-/// Asserts that the words are no command's, and that no call of the store is made for them.
+/// Asserts that the words are not a command, and that no call of the store is made for them.
 fn assert_no_command(rt: &impl Abort, alloc: Global, words: &[&str; 7]) -> Result<(), Fail> {
     let mut store = with_old_files(alloc)?;
-    assert_ends(rt, alloc, words, &mut store, 3, USAGE)?;
+    assert_usage(rt, alloc, words, &mut store)?;
     assert_eq!(rt; store.calls, 0);
     Ok(())
 }
@@ -149,10 +149,10 @@ fn options_and_great_seeds_are_no_command(rt: HostRuntime) -> Result<(), Fail> {
     Ok(())
 }
 
-/// Run with each allocation failing in turn, it tells whether want of memory leaves the files as it should: each is
+/// Run with each allocation failing in turn, it tells whether running out of memory leaves the files as it should: each is
 /// old or whole, and none is whole behind an old one.
 #[test]
-fn want_of_memory_leaves_old_files_or_whole_ones(rt: HostRuntime) -> Result<(), Fail> {
+fn running_out_of_memory_leaves_old_files_or_whole_ones(rt: HostRuntime) -> Result<(), Fail> {
     let mut store = with_old_files(rt.alloc())?;
     let words = owned(rt.alloc(), &WORDS)?;
     let mut out = b"left over".to_vec(rt.alloc())?;

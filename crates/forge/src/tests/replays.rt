@@ -1,6 +1,6 @@
 //! The command `replay`: what it answers to files that make-serial wrote, and to spoiled ones.
 use super::harts::text_of;
-use super::{JOB, LINE, ORDER, TRACE, USAGE, assert_ends, assert_holds, assert_made};
+use super::{JOB, LINE, ORDER, TRACE, assert_ends, assert_holds, assert_made, assert_usage};
 use std::alloc::Global;
 use std::process::Abort;
 use std::test::*;
@@ -102,13 +102,6 @@ fn a_file_that_is_not_there(rt: HostRuntime) -> Result<(), Fail> {
 #[test]
 fn equal_names_are_no_replay(rt: HostRuntime) -> Result<(), Fail> {
     let mut store = made(&rt, rt.alloc())?;
-    assert_ends(
-        &rt,
-        rt.alloc(),
-        &["replay", "e", "o", "e"],
-        &mut store,
-        3,
-        USAGE,
-    )?;
-    assert_ends(&rt, rt.alloc(), &["replay", "e", "o"], &mut store, 3, USAGE)
+    assert_usage(&rt, rt.alloc(), &["replay", "e", "o", "e"], &mut store)?;
+    assert_usage(&rt, rt.alloc(), &["replay", "e", "o"], &mut store)
 }
