@@ -32,3 +32,7 @@ most_entries = 4
 -- a number of so many bytes is below this
 abbrev pub sized_bound : ℕ → ℕ
 sized_bound size = 2 ^ (8 * size)
+
+-- a reader takes fewer fields of a line than this
+abbrev pub most_fields : ℕ
+most_fields = 100

@@ -1,14 +1,15 @@
 //! The fields of a line, taken one after another.
-ghost use Rattle.std.specs.Prelude.{◌≡◌, ◌≢◌, ◌+◌, ◌<◌, ◌≤◌, ◌^◌, [], true, List, ℕ, MatchResult, IfSome, length};
+ghost use Rattle.std.specs.Prelude.{◌≡◌, ◌≢◌, ◌+◌, ◌<◌, ◌≤◌, ◌^◌, [], List, ℕ, MatchResult, IfSome, length};
 ghost use Rattle.std.specs.List.{flat_map, AllByRecursion};
 ghost use Rattle.std.specs.Fmt.{decimal};
 ghost use Rattle.std.specs.Str.Parse.{digits_value};
 ghost use Rattle.trace_fields.specs.Text.{hex, word_text, kind_text, cause_text, or_none, write_text, access_text, trail_text, trap_text, joined_by, slash, byte_text};
-ghost use Rattle.trace_fields.specs.Fields.{fields_of, is_word, is_decimal, is_another_hart};
+ghost use Rattle.trace_fields.specs.Fields.{Test, fields_of, is_word, is_decimal, is_another_hart};
 ghost use Rattle.trace_fields.specs.Numbers.{decimal_below, word_of};
 ghost use Rattle.trace_fields.specs.Readings.{hex_of, count_of, kind_of, cause_of, number_of, preambles, name_of, register_of, space_of, path_of, bytes_of, optional, write_of, access_of, trail_of, trap_of};
 ghost use Rattle.trace_fields.specs.Ranges.{IsAnyOf, IsName, IsPath, AreBytes, IsWrite, IsAccess, IsEntry, IsTrap};
-ghost use Rattle.trace_fields.specs.Taking.{left, Took, Takes, Lacks, Leaves};
+ghost use Rattle.trace_fields.specs.Bounds.{count_bound, hex_bound, register_bound, space_bound, most_entries, most_fields};
+ghost use Rattle.trace_fields.specs.Taking.{left, whole_line, IsWrongBy, Took, Passed, Takes, Lacks};
 
 use crate::access::AccessText;
 use crate::fault::LineFault;
@@ -33,7 +34,7 @@ pub struct Fields<'a> {
 impl<'a> Fields<'a> {
     /// The fields of the line of this number, which has this text.
     pub fn of(line: u64, text: &'a [u8]) -> Fields<'a>
-        ensures { (left result ≡ fields_of text.now) × (result.line ≡ line) × (result.number ≡ 1) }
+        ensures { left result ≡ whole_line line (fields_of text.now) }
     {
         Fields {
             line,
@@ -44,7 +45,7 @@ impl<'a> Fields<'a> {
 
     /// The fault that the next field is wrong, missing or too many.
     pub fn fault(&self) -> LineFault
-        ensures { result ≡ LineFault.At self.now.line self.now.number }
+        ensures { result ≡ LineFault.At (left self.now).line (left self.now).number }
     {
         LineFault::At {
             line: self.line,
@@ -54,8 +55,8 @@ impl<'a> Fields<'a> {
 
     /// The next field, whatever it is.
     pub fn next(&mut self) -> Result<&'a [u8], LineFault>
-        requires { self.old.number < 100 }
-        ensures { MatchResult result (λ field. Took self.old self.new field.now) (λ fault. (left self.old ≡ []) × (fault ≡ LineFault.At self.old.line self.old.number)) }
+        requires { (left self.old).number < most_fields }
+        ensures { MatchResult result (λ field. Took self.old self.new field.now) (λ fault. ((left self.old).fields ≡ []) × ((test : Test) → Lacks test self.old fault)) }
     {
         let fault = self.fault();
         let field = self.parts.next().ok_or(fault)?;
@@ -65,7 +66,7 @@ impl<'a> Fields<'a> {
 
     /// The end of the line.
     pub fn end(&self) -> Result<(), LineFault>
-        ensures { MatchResult result (λ end. left self.now ≡ []) (λ fault. Leaves self.now fault) }
+        ensures { MatchResult result (λ end. (left self.now).fields ≡ []) (λ fault. IsWrongBy [] (left self.now) fault) }
     {
         let mut parts = self.parts;
         match parts.next() {
@@ -76,7 +77,7 @@ impl<'a> Fields<'a> {
 
     /// A hart below this number.
     pub fn hart(&mut self, harts: u8) -> Result<u8, LineFault>
-        requires { self.old.number < 100 }
+        requires { (left self.old).number < most_fields }
         ensures { Takes (decimal_below harts) decimal (λ h. h < harts) (λ v. v) self.old self.new result }
     {
         let fault = self.fault();
@@ -86,8 +87,8 @@ impl<'a> Fields<'a> {
 
     /// A number that counts something.
     pub fn count(&mut self) -> Result<u32, LineFault>
-        requires { self.old.number < 100 }
-        ensures { Takes count_of decimal (λ n. n < 2 ^ 32) (λ v. v) self.old self.new result }
+        requires { (left self.old).number < most_fields }
+        ensures { Takes count_of decimal (λ n. n < count_bound) (λ v. v) self.old self.new result }
     {
         let fault = self.fault();
         readings::count_of(self.next()?).ok_or(fault)
@@ -95,8 +96,8 @@ impl<'a> Fields<'a> {
 
     /// A number in hexadecimal digits.
     pub fn hex(&mut self) -> Result<u64, LineFault>
-        requires { self.old.number < 100 }
-        ensures { Takes hex_of hex (λ n. n < 2 ^ 64) (λ v. v) self.old self.new result }
+        requires { (left self.old).number < most_fields }
+        ensures { Takes hex_of hex (λ n. n < hex_bound) (λ v. v) self.old self.new result }
     {
         let fault = self.fault();
         numbers::hex_of(self.next()?).ok_or(fault)
@@ -104,7 +105,7 @@ impl<'a> Fields<'a> {
 
     /// A word.
     pub fn word(&mut self) -> Result<u32, LineFault>
-        requires { self.old.number < 100 }
+        requires { (left self.old).number < most_fields }
         ensures { Takes word_of word_text (λ w. w < 2 ^ 32) (λ v. v) self.old self.new result }
     {
         let fault = self.fault();
@@ -113,8 +114,8 @@ impl<'a> Fields<'a> {
 
     /// A register, x1 to x31.
     pub fn register(&mut self) -> Result<u32, LineFault>
-        requires { self.old.number < 100 }
-        ensures { Takes register_of decimal (λ r. (1 ≤ r) × (r < 32)) (λ v. v) self.old self.new result }
+        requires { (left self.old).number < most_fields }
+        ensures { Takes register_of decimal (λ r. (1 ≤ r) × (r < register_bound)) (λ v. v) self.old self.new result }
     {
         let fault = self.fault();
         let told = readings::register_of(self.next()?).ok_or(fault)?;
@@ -123,8 +124,8 @@ impl<'a> Fields<'a> {
 
     /// An address space.
     pub fn space(&mut self) -> Result<u32, LineFault>
-        requires { self.old.number < 100 }
-        ensures { Takes space_of decimal (λ s. s < 16) (λ v. v) self.old self.new result }
+        requires { (left self.old).number < most_fields }
+        ensures { Takes space_of decimal (λ s. s < space_bound) (λ v. v) self.old self.new result }
     {
         let fault = self.fault();
         readings::space_of(self.next()?).ok_or(fault)
@@ -132,7 +133,7 @@ impl<'a> Fields<'a> {
 
     /// The number of words of a preamble.
     pub fn preamble(&mut self) -> Result<u32, LineFault>
-        requires { self.old.number < 100 }
+        requires { (left self.old).number < most_fields }
         ensures { Takes (number_of preambles) decimal (IsAnyOf preambles) (λ v. v) self.old self.new result }
     {
         let fault = self.fault();
@@ -141,7 +142,7 @@ impl<'a> Fields<'a> {
 
     /// The kind of a request.
     pub fn kind(&mut self) -> Result<Kind, LineFault>
-        requires { self.old.number < 100 }
+        requires { (left self.old).number < most_fields }
         ensures { Takes kind_of kind_text (λ kind. Unit {0}) (λ v. v) self.old self.new result }
     {
         let fault = self.fault();
@@ -150,7 +151,7 @@ impl<'a> Fields<'a> {
 
     /// The cause of a refusal.
     pub fn cause(&mut self) -> Result<Cause, LineFault>
-        requires { self.old.number < 100 }
+        requires { (left self.old).number < most_fields }
         ensures { Takes cause_of cause_text (λ cause. Unit {0}) (λ v. v) self.old self.new result }
     {
         let fault = self.fault();
@@ -159,7 +160,7 @@ impl<'a> Fields<'a> {
 
     /// A name.
     pub fn name(&mut self) -> Result<Name, LineFault>
-        requires { self.old.number < 100 }
+        requires { (left self.old).number < most_fields }
         ensures { Takes name_of (λ name. name) IsName (λ v. v) self.old self.new result }
     {
         let fault = self.fault();
@@ -168,7 +169,7 @@ impl<'a> Fields<'a> {
 
     /// The register that a step wrote, where it wrote one.
     pub fn write(&mut self) -> Result<Option<(u8, u64)>, LineFault>
-        requires { self.old.number < 100 }
+        requires { (left self.old).number < most_fields }
         ensures { Takes (optional write_of) (or_none write_text) (λ write. IfSome write IsWrite) (λ v. v) self.old self.new result }
     {
         let fault = self.fault();
@@ -177,7 +178,7 @@ impl<'a> Fields<'a> {
 
     /// What a step read or wrote in memory, where it did.
     pub fn access(&mut self) -> Result<Option<AccessText>, LineFault>
-        requires { self.old.number < 100 }
+        requires { (left self.old).number < most_fields }
         ensures { Takes (optional access_of) (or_none access_text) (λ access. IfSome access IsAccess) (λ v. v) self.old self.new result }
     {
         let fault = self.fault();
@@ -186,8 +187,8 @@ impl<'a> Fields<'a> {
 
     /// The page table entries by which an address is translated.
     pub fn trail(&mut self) -> Result<TrailText, LineFault>
-        requires { self.old.number < 100 }
-        ensures { Takes trail_of trail_text (λ trail. (length trail ≤ 4) × AllByRecursion IsEntry trail) (λ v. v) self.old self.new result }
+        requires { (left self.old).number < most_fields }
+        ensures { Takes trail_of trail_text (λ trail. (length trail ≤ most_entries) × AllByRecursion IsEntry trail) (λ v. v) self.old self.new result }
     {
         let fault = self.fault();
         readings::trail_of(self.next()?).ok_or(fault)
@@ -195,7 +196,7 @@ impl<'a> Fields<'a> {
 
     /// The trap that a step took, where it took one.
     pub fn trap(&mut self) -> Result<Option<TrapText>, LineFault>
-        requires { self.old.number < 100 }
+        requires { (left self.old).number < most_fields }
         ensures { Takes (optional trap_of) (or_none trap_text) (λ trap. IfSome trap IsTrap) (λ v. v) self.old self.new result }
     {
         let fault = self.fault();
@@ -204,7 +205,7 @@ impl<'a> Fields<'a> {
 
     /// The labels of a path.
     pub fn path(&mut self, alloc: Global) -> Result<Vec<Name>, LineFault>
-        requires { self.old.number < 100 }
+        requires { (left self.old).number < most_fields }
         ensures { Takes path_of (joined_by slash) IsPath (λ path. path.items) self.old self.new result }
     {
         let fault = self.fault();
@@ -213,7 +214,7 @@ impl<'a> Fields<'a> {
 
     /// Bytes with which memory starts.
     pub fn bytes(&mut self, alloc: Global) -> Result<Vec<u8>, LineFault>
-        requires { self.old.number < 100 }
+        requires { (left self.old).number < most_fields }
         ensures { Takes bytes_of (flat_map byte_text) AreBytes (λ bytes. bytes.items) self.old self.new result }
     {
         let fault = self.fault();
@@ -222,8 +223,8 @@ impl<'a> Fields<'a> {
 
     /// Just this word.
     pub fn keyword(&mut self, word: &str) -> Result<(), LineFault>
-        requires { self.old.number < 100 }
-        ensures { MatchResult result (λ taken. Took self.old self.new word.now) (λ fault. Lacks (is_word word.now) self.old fault) }
+        requires { (left self.old).number < most_fields }
+        ensures { MatchResult result (λ taken. Passed (is_word word.now) self.old self.new word.now) (λ fault. Lacks (is_word word.now) self.old fault) }
     {
         let fault = self.fault();
         if self.next()? != word.as_bytes() {
@@ -234,9 +235,9 @@ impl<'a> Fields<'a> {
 
     /// A number from 1 on and below the bound.
     pub fn count_below(&mut self, bound: usize) -> Result<usize, LineFault>
-        requires { self.old.number < 100 }
+        requires { (left self.old).number < most_fields }
         ensures { MatchResult result
-            (λ count. (field : List ℕ) × Took self.old self.new field × (is_decimal 1 bound field ≡ true) × (count ≡ digits_value 10 field) × (0 < count) × (count < bound))
+            (λ count. (field : List ℕ) × Passed (is_decimal 1 bound) self.old self.new field × (count ≡ digits_value 10 field) × (0 < count) × (count < bound))
             (λ fault. Lacks (is_decimal 1 bound) self.old fault) }
     {
         let fault = self.fault();
@@ -245,9 +246,9 @@ impl<'a> Fields<'a> {
 
     /// A hart below this number, and not the one of the line before.
     pub fn other_hart(&mut self, harts: u8, last: Option<u8>) -> Result<u8, LineFault>
-        requires { self.old.number < 100 }
+        requires { (left self.old).number < most_fields }
         ensures { MatchResult result
-            (λ hart. (field : List ℕ) × Took self.old self.new field × (is_another_hart harts last field ≡ true) × (hart ≡ digits_value 10 field) × (hart < harts)
+            (λ hart. (field : List ℕ) × Passed (is_another_hart harts last) self.old self.new field × (hart ≡ digits_value 10 field) × (hart < harts)
             × IfSome last (λ before. before ≢ hart))
             (λ fault. Lacks (is_another_hart harts last) self.old fault) }
     {

@@ -8,7 +8,7 @@ use Rattle.trace_fields.specs.declared.fault.LineFault.TheVariants as line_fault
 use Rattle.trace_fields.specs.Fields.{Place}
 use Rattle.trace_text.specs.Lines.{Line, effects_of}
 use Rattle.trace_text.specs.Orders.{order_fault}
-use Rattle.trace_text.specs.Reading.{IsFault}
+use Rattle.trace_fields.specs.Taking.{IsFault}
 use Rattle.trace_text.specs.Traces.{trace_fault}
 use Rattle.elf_file.specs.declared.fault.ElfFault.TheVariants as elf_fault
 use Rattle.elf_file.specs.Faults.{fault_of}

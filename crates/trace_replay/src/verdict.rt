@@ -1,6 +1,6 @@
 ghost use Rattle.std.specs.Prelude.{◌≡◌, ◌≢◌, Option, Some, string_bytes};
 ghost use Rattle.trace_fields.specs.Fields.{Place};
-ghost use Rattle.trace_text.specs.Reading.{IsFault};
+ghost use Rattle.trace_fields.specs.Taking.{IsFault};
 ghost use Rattle.trace_replay.specs.declared.verdict.ReplayFault.TheVariants.{Memory};
 ghost use Rattle.trace_replay.specs.Verdicts.{IsTraceFault};
 

@@ -1,13 +1,13 @@
 -- The fault of a text, line by line.
-use Rattle.std.proofs.Common.{◌≡◌, ℕ, ◌+◌, List, [], ◌∷◌, length, Bool, true, false, cond, refl, sym, ap, ◌∙◌, Option, Some, None}
+use Rattle.std.proofs.Common.{◌≡◌, ℕ, ◌+◌, List, [], ◌∷◌, length, Bool, true, false, cond, refl, sym, ap, ◌∙◌, Option, Some, None, option_map, subst}
 use Rattle.std.specs.Prelude.{◌==◌, ◌&&◌, nat_lt}
 use Rattle.std.specs.Option.{unwrap_or}
 use Rattle.std.specs.List.{onto_first}
 use Rattle.std.proofs.lemmas.Bool.{cond-false}
+use Rattle.std.proofs.lemmas.Option.{none-some}
 use Rattle.trace_fields.specs.declared.fault.LineFault.{LineFault}
 use Rattle.trace_fields.specs.declared.fault.LineFault.TheVariants.{At, Memory}
-use Rattle.trace_text.specs.Reading.{IsFault}
-use Rattle.trace_fields.specs.Taking.{IsFaultIn}
+use Rattle.trace_fields.specs.Taking.{IsFault, IsWrongBy, whole_line}
 use Rattle.trace_text.specs.Forms.{Form, lines_of_text, first_fault, fault_from, wrong_in, wrong_at_end}
 use Rattle.trace_fields.specs.Fields.{Place, fields_of}
 
@@ -26,20 +26,19 @@ pub step : {Known : Type 0} (form : Form Known) (known : Known) (line : ℕ) (fi
 step form known line first [] = refl
 step form known line first (b ∷ behind) = some_line form known line first (b == 0x0a) b (lines_of_text behind)
 
--- the fault in a last line that no newline ends
-pub at_end_wrong : {Known : Type 0} (form : Form Known) (known : Known) (fields : List (List ℕ)) (field : ℕ)
-    → wrong_in form known fields ≡ Some field → wrong_at_end form known fields ≡ field
-at_end_wrong form known fields field wrong = ap (λ w. unwrap_or w (length fields + 1)) wrong
+-- the fault of a line of this number in which this field is wrong
+abbrev wrong_at : ℕ → Option ℕ → Option Place
+wrong_at line wrong = option_map (λ field. record { line = line; field = field }) wrong
 
--- the fault of what is left is in its first line
-pub ended_here : {Known : Type 0} (form : Form Known) (known : Known) (line field : ℕ) (rest first behind : List ℕ) (whole : Option Place)
-    → fault_from form known line (lines_of_text rest) ≡ whole → lines_of_text rest ≡ first ∷ lines_of_text behind
-    → wrong_in form known (fields_of first) ≡ Some field → whole ≡ Some (record { line = line; field = field })
-ended_here form known line field rest first behind whole left cut wrong =
-    sym left ∙ ap (fault_from form known line) cut ∙ step form known line first behind
-    ∙ ap (λ w. first_fault line w (fault_from form (form.after known (fields_of first)) (line + 1) (lines_of_text behind))) wrong
+first_is : (line : ℕ) (wrong : Option ℕ) (behind : Option Place) (place : Place) → wrong_at line wrong ≡ Some place → first_fault line wrong behind ≡ Some place
+first_is line None behind place is = absurd (none-some place is)
+first_is line (Some field) behind place is = is
 
--- or behind it
+last_is : (line end : ℕ) (wrong : Option ℕ) (place : Place) → wrong_at line wrong ≡ Some place → Some (record { line = line; field = unwrap_or wrong end }) ≡ Some place
+last_is line end None place is = absurd (none-some place is)
+last_is line end (Some field) place is = is
+
+-- the fault of what is left is behind its first line
 pub goes_on : {Known : Type 0} (form : Form Known) (known : Known) (line : ℕ) (rest first behind : List ℕ) (whole : Option Place)
     → fault_from form known line (lines_of_text rest) ≡ whole → lines_of_text rest ≡ first ∷ lines_of_text behind
     → wrong_in form known (fields_of first) ≡ None
@@ -51,29 +50,29 @@ goes_on form known line rest first behind whole left cut right =
 
 -- the fault is that of a line of this number which no newline ends; or memory ran out
 abbrev pub IsFaultAtEnd : {Known : Type 0} → Form Known → Known → ℕ → List ℕ → LineFault → Type 0
-IsFaultAtEnd form known line text (At l f) = (l ≡ line) × (wrong_at_end form known (fields_of text) ≡ f)
-IsFaultAtEnd form known line text Memory = Unit {0}
+IsFaultAtEnd form known line text fault = IsFault (Some (record { line = line; field = wrong_at_end form known (fields_of text) })) fault
 
 -- The fault that a reader answers with, of what is left.
 module _ {Known : Type 0} (form : Form Known) (known : Known) (line : ℕ) (rest : List ℕ) (whole : Option Place)
     (left : fault_from form known line (lines_of_text rest) ≡ whole) where
   pub stops_here : (first behind : List ℕ) (fault : LineFault) → lines_of_text rest ≡ first ∷ lines_of_text behind
-      → IsFaultIn (form.tests known (fields_of first)) line (fields_of first) fault → IsFault whole fault
+      → IsWrongBy (form.tests known (fields_of first)) (whole_line line (fields_of first)) fault → IsFault whole fault
   stops_here first behind (At l f) cut wrong =
-      ended_here form known line f rest first behind whole left cut wrong.1 ∙ ap (λ k. Some (record { line = k; field = f })) (sym wrong.0)
+      sym left ∙ ap (fault_from form known line) cut ∙ step form known line first behind
+      ∙ first_is line (wrong_in form known (fields_of first)) _ (record { line = l; field = f }) wrong.is
   stops_here first behind Memory cut wrong = tt
 
   -- where no newline ends it, and it is no empty text behind other lines
   pub stops_at_end : (fault : LineFault) → lines_of_text rest ≡ rest ∷ [] → (length rest == 0 && nat_lt 1 line) ≡ false
       → IsFaultAtEnd form known line rest fault → IsFault whole fault
-  stops_at_end (At l f) cut some wrong =
-      sym left ∙ ap (fault_from form known line) cut
-      ∙ cond-false (length rest == 0 && nat_lt 1 line) None (Some (record { line = line; field = wrong_at_end form known (fields_of rest) })) some
-      ∙ ap (λ k. Some (record { line = line; field = k })) wrong.1 ∙ ap (λ k. Some (record { line = k; field = f })) (sym wrong.0)
-  stops_at_end Memory cut some wrong = tt
+  stops_at_end fault cut some wrong =
+      let last = Some (record { line = line; field = wrong_at_end form known (fields_of rest) }) in
+      let is : whole ≡ last = sym left ∙ ap (fault_from form known line) cut ∙ cond-false (length rest == 0 && nat_lt 1 line) None last some in
+      subst (λ w. IsFault w fault) (sym is) wrong
 
 -- the fault of a line that no newline ends
 pub at_end_in : {Known : Type 0} (form : Form Known) (known : Known) (line : ℕ) (text : List ℕ) (fault : LineFault)
-    → IsFaultIn (form.tests known (fields_of text)) line (fields_of text) fault → IsFaultAtEnd form known line text fault
-at_end_in form known line text (At l f) wrong = (wrong.0, at_end_wrong form known (fields_of text) f wrong.1)
+    → IsWrongBy (form.tests known (fields_of text)) (whole_line line (fields_of text)) fault → IsFaultAtEnd form known line text fault
+at_end_in form known line text (At l f) wrong =
+    last_is line (length (fields_of text) + 1) (wrong_in form known (fields_of text)) (record { line = l; field = f }) wrong.is
 at_end_in form known line text Memory wrong = tt

@@ -18,7 +18,6 @@ use Rattle.trace_text.proofs.VisibleLines.{cut_fields, no_newline}
 use Rattle.trace_fields.proofs.WordBytes.{IsVisible, or_none_visible, there_fits}
 use Rattle.trace_fields.proofs.Spells.{Spells}
 use Rattle.trace_fields.proofs.Spellings as spellings
-use Rattle.trace_fields.proofs.Agains as agains
 
 module _ (harts : ℕ) (most : harts ≤ 16) where
   hart_visible : (h : ℕ) → h < harts → IsVisible (decimal h)

@@ -4,7 +4,7 @@ use Rattle.std.specs.Prelude.{MatchResult, codes}
 use Rattle.std.proofs.lemmas.Option.{none-some}
 use Rattle.trace_fields.specs.declared.fault.LineFault.{LineFault}
 use Rattle.trace_fields.specs.declared.fault.LineFault.TheVariants.{At, Memory}
-use Rattle.trace_text.specs.Reading.{IsFault}
+use Rattle.trace_fields.specs.Taking.{IsFault}
 use Rattle.std.specs.List.{flat_map}
 use Rattle.std.proofs.lemmas.List.{length-append, length-replicate}
 use Rattle.trace_text.specs.Forms.{lines_of_text, fault_from, first_fault}

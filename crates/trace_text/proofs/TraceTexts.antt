@@ -12,8 +12,7 @@ use Rattle.trace_text.specs.declared.line.Line as code
 use Rattle.trace_fields.specs.Fields.{fields_of}
 use Rattle.trace_text.specs.Forms.{lines_of_text, wrong_in}
 use Rattle.trace_text.specs.Lines.{Line}
-use Rattle.trace_text.specs.Reading.{IsFault}
-use Rattle.trace_fields.specs.Taking.{IsFaultIn}
+use Rattle.trace_fields.specs.Taking.{IsFault, IsWrongBy, whole_line}
 use Rattle.trace_text.specs.Text.{line_fields, trace_text}
 use Rattle.trace_text.specs.Traces.{IsLine, IsTrace, trace_form, trace_tests, trace_fault}
 use Rattle.trace_text.specs.Views.{line_seen, lines_seen}
@@ -50,14 +49,14 @@ right_line harts few l fields are is = ap (wrong_in trace_form (Some harts)) are
 -- The fault of a line that no newline ends.
 pub open_line : (harts number : ℕ) (text : List ℕ) (read : Result code.Line LineFault) (fault : LineFault) → harts ≤ 16
     → MatchResult read (λ l. (fields_of text ≡ line_fields (line_seen l)) × IsLine harts (line_seen l))
-    (λ f. IsFaultIn (trace_tests (Some harts) (fields_of text)) number (fields_of text) f)
+    (λ f. IsWrongBy (trace_tests (Some harts) (fields_of text)) (whole_line number (fields_of text)) f)
     → MatchResult read (λ l. fault ≡ At number (length (line_fields (line_seen l)) + 1)) (λ f. fault ≡ f)
     → IsFaultAtEnd trace_form (Some harts) number text fault
 open_line harts number text (Ok l) fault few reads is =
     let fields = fields_of text in
     let right = right_line harts few (line_seen l) fields reads.0 reads.1 in
     let field = ap (λ w. unwrap_or w (length fields + 1)) right ∙ ap (λ fs. length fs + 1) reads.0 in
-    subst (IsFaultAtEnd trace_form (Some harts) number text) (sym is) (refl, field)
+    subst (IsFaultAtEnd trace_form (Some harts) number text) (sym is) (ap (λ k. Some (record { line = number; field = k })) field)
 open_line harts number text (Err f) fault few reads is =
     subst (IsFaultAtEnd trace_form (Some harts) number text) (sym is) (at_end_in trace_form (Some harts) number text f reads)
 

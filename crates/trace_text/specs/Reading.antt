@@ -3,21 +3,16 @@ use Rattle.std.specs.Prelude.{◌≡◌, ℕ, ◌+◌, ◌≤◌, List, [], ◌�
 use Rattle.std.specs.List.{flat_map, AllByRecursion}
 use Rattle.rv_fields.specs.Play.{most_harts}
 use Rattle.trace_fields.specs.declared.fault.LineFault.{LineFault}
-use Rattle.trace_fields.specs.declared.fault.LineFault.TheVariants.{At, Memory}
 use Rattle.trace_text.specs.declared.line.Line as code
 use Rattle.trace_text.specs.declared.trace_lines.TraceLines.{TraceLines}
 use Rattle.trace_fields.specs.Fields.{Place}
+use Rattle.trace_fields.specs.Taking.{IsFault}
 use Rattle.trace_text.specs.Forms.{fault_from, lines_of_text}
 use Rattle.trace_text.specs.Lines.{Line}
 use Rattle.trace_text.specs.Orders.{order_form, turns}
 use Rattle.trace_text.specs.Text.{header_text, line_text}
 use Rattle.trace_text.specs.Traces.{IsLine, trace_fault, trace_form}
 use Rattle.trace_text.specs.Views.{line_seen}
-
--- the fault is this one, or memory ran out
-abbrev pub IsFault : Option Place → LineFault → Type 0
-IsFault fault (At l f) = fault ≡ Some (record { line = l; field = f })
-IsFault fault Memory = Unit {0}
 
 -- the fault of the lines behind the first, where the first tells so many harts
 abbrev pub turns_fault : ℕ → List ℕ → Option Place

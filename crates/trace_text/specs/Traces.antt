@@ -54,38 +54,59 @@ pub record IsTrace (harts : ℕ) (lines : List Line) : Type 0 where
 
 -- The tests of the fields.
 
-abbrev pub step_tests : List Test
-step_tests = tells hex_of ∷ tells hex_of ∷ tells word_of ∷ tells (optional write_of) ∷ tells (optional access_of) ∷ tells trail_of ∷ tells (optional trap_of) ∷ []
-
 -- a kind of line: its first field, and the tests of the fields behind the hart
 pub record LineForm : Type 0 where
   pub key : List ℕ
   pub tests : List Test
 
-abbrev pub form_of : List ℕ → List Test → LineForm
-form_of key tests = record { key = key; tests = tests }
+abbrev pub request_form : LineForm
+request_form = record { key = codes "q"; tests = tells count_of ∷ tells kind_of ∷ [] }
+
+abbrev pub picked_form : LineForm
+picked_form = record { key = codes "p"; tests = tells name_of ∷ tells name_of ∷ tells hex_of ∷ [] }
+
+abbrev pub weighed_form : LineForm
+weighed_form = record { key = codes "w"; tests = tells name_of ∷ tells path_of ∷ tells count_of ∷ [] }
+
+abbrev pub fixed_form : LineForm
+fixed_form = record { key = codes "x"; tests = tells register_of ∷ tells hex_of ∷ [] }
+
+abbrev pub given_form : LineForm
+given_form = record { key = codes "g"; tests = tells name_of ∷ tells count_of ∷ tells count_of ∷ [] }
+
+abbrev pub settled_form : LineForm
+settled_form = record { key = codes "m"; tests = tells space_of ∷ tells hex_of ∷ tells hex_of ∷ [] }
+
+abbrev pub touched_form : LineForm
+touched_form = record { key = codes "y"; tests = tells hex_of ∷ tells bytes_of ∷ [] }
+
+abbrev pub step_tests : List Test
+step_tests = tells hex_of ∷ tells hex_of ∷ tells word_of ∷ tells (optional write_of) ∷ tells (optional access_of) ∷ tells trail_of ∷ tells (optional trap_of) ∷ []
+
+-- the step lines differ by their first field alone
+abbrev pub step_form : List ℕ → LineForm
+step_form key = record { key = key; tests = step_tests }
+
+abbrev pub done_form : LineForm
+done_form = record { key = codes "d"; tests = tells count_of ∷ [] }
+
+abbrev pub refused_form : LineForm
+refused_form = record { key = codes "r"; tests = tells count_of ∷ tells cause_of ∷ tells (number_of preambles) ∷ [] }
 
 abbrev pub line_forms : List LineForm
 line_forms =
-    form_of (codes "q") (tells count_of ∷ tells kind_of ∷ [])
-    ∷ form_of (codes "p") (tells name_of ∷ tells name_of ∷ tells hex_of ∷ [])
-    ∷ form_of (codes "w") (tells name_of ∷ tells path_of ∷ tells count_of ∷ [])
-    ∷ form_of (codes "x") (tells register_of ∷ tells hex_of ∷ [])
-    ∷ form_of (codes "g") (tells name_of ∷ tells count_of ∷ tells count_of ∷ [])
-    ∷ form_of (codes "m") (tells space_of ∷ tells hex_of ∷ tells hex_of ∷ [])
-    ∷ form_of (codes "y") (tells hex_of ∷ tells bytes_of ∷ [])
-    ∷ form_of (codes "s") step_tests
-    ∷ form_of (codes "f") step_tests
-    ∷ form_of (codes "e") step_tests
-    ∷ form_of (codes "d") (tells count_of ∷ [])
-    ∷ form_of (codes "r") (tells count_of ∷ tells cause_of ∷ tells (number_of preambles) ∷ [])
-    ∷ []
+    request_form ∷ picked_form ∷ weighed_form ∷ fixed_form ∷ given_form ∷ settled_form ∷ touched_form ∷ step_form (codes "s") ∷ step_form (codes "f")
+    ∷ step_form (codes "e") ∷ done_form ∷ refused_form ∷ []
+
+-- the tests of the fields behind the first, where these are the tests of those behind the hart
+abbrev pub tests_behind : ℕ → List Test → List Test
+tests_behind harts tests = tells (decimal_below harts) ∷ tests
 
 -- the tests of a line with this first field; where no form has it, it is wrong
 abbrev pub tests_for : ℕ → List ℕ → List LineForm → List Test
 tests_for harts key [] = (λ field. false) ∷ []
 tests_for harts key (form ∷ forms) =
-    if bytes_eq form.key key then is_word key ∷ tells (decimal_below harts) ∷ form.tests else tests_for harts key forms
+    if bytes_eq form.key key then is_word key ∷ tests_behind harts form.tests else tests_for harts key forms
 
 -- What is known behind some lines: the number of harts, behind the first.
 abbrev pub trace_tests : Option ℕ → List (List ℕ) → List Test

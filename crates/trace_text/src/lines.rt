@@ -1,12 +1,9 @@
 //! The lines of a trace, each read behind the field that tells its form.
-ghost use Rattle.std.specs.Prelude.{◌≡◌, ◌<◌, [], ◌∷◌, codes, MatchResult};
-ghost use Rattle.trace_text.specs.Text.{step_fields};
-ghost use Rattle.trace_fields.specs.Readings.{hex_of, count_of, kind_of, cause_of, number_of, preambles, name_of, register_of, space_of, path_of, bytes_of};
-ghost use Rattle.trace_fields.specs.Numbers.{decimal_below};
-ghost use Rattle.trace_fields.specs.Fields.{tells};
-ghost use Rattle.trace_text.specs.Traces.{step_tests, IsStep};
-ghost use Rattle.trace_text.specs.Views.{effect_seen};
+ghost use Rattle.std.specs.Prelude.{◌≡◌, ◌<◌, MatchResult};
 ghost use Rattle.trace_fields.specs.Taking.{left, IsWrongBy};
+ghost use Rattle.trace_text.specs.Text.{step_fields};
+ghost use Rattle.trace_text.specs.Traces.{request_form, picked_form, weighed_form, fixed_form, given_form, settled_form, touched_form, step_tests, done_form, refused_form, tests_behind, IsStep};
+ghost use Rattle.trace_text.specs.Views.{effect_seen};
 ghost use Rattle.trace_text.specs.LineReading.{ReadsLine};
 
 use crate::line::{Line, StepLine};
@@ -15,8 +12,8 @@ use trace_fields::{Fields, LineFault};
 
 /// A request begins.
 pub(crate) fn request(fields: &mut Fields, harts: u8) -> Result<Line, LineFault>
-    requires { fields.old.number ≡ 2 }
-    ensures { ReadsLine (codes "q") (tells count_of ∷ tells kind_of ∷ []) harts fields.old result }
+    requires { (left fields.old).number ≡ 2 }
+    ensures { ReadsLine request_form harts fields.old result }
 {
     let hart = fields.hart(harts)?;
     let k = fields.count()?;
@@ -27,8 +24,8 @@ pub(crate) fn request(fields: &mut Fields, harts: u8) -> Result<Line, LineFault>
 
 /// A leaf was picked.
 pub(crate) fn picked(fields: &mut Fields, harts: u8) -> Result<Line, LineFault>
-    requires { fields.old.number ≡ 2 }
-    ensures { ReadsLine (codes "p") (tells name_of ∷ tells name_of ∷ tells hex_of ∷ []) harts fields.old result }
+    requires { (left fields.old).number ≡ 2 }
+    ensures { ReadsLine picked_form harts fields.old result }
 {
     let hart = fields.hart(harts)?;
     let tree = fields.name()?;
@@ -45,8 +42,8 @@ pub(crate) fn picked(fields: &mut Fields, harts: u8) -> Result<Line, LineFault>
 
 /// A node has a new weight.
 pub(crate) fn weighed(alloc: Global, fields: &mut Fields, harts: u8) -> Result<Line, LineFault>
-    requires { fields.old.number ≡ 2 }
-    ensures { ReadsLine (codes "w") (tells name_of ∷ tells path_of ∷ tells count_of ∷ []) harts fields.old result }
+    requires { (left fields.old).number ≡ 2 }
+    ensures { ReadsLine weighed_form harts fields.old result }
 {
     let hart = fields.hart(harts)?;
     let tree = fields.name()?;
@@ -63,8 +60,8 @@ pub(crate) fn weighed(alloc: Global, fields: &mut Fields, harts: u8) -> Result<L
 
 /// A register starts with a value.
 pub(crate) fn fixed(fields: &mut Fields, harts: u8) -> Result<Line, LineFault>
-    requires { fields.old.number ≡ 2 }
-    ensures { ReadsLine (codes "x") (tells register_of ∷ tells hex_of ∷ []) harts fields.old result }
+    requires { (left fields.old).number ≡ 2 }
+    ensures { ReadsLine fixed_form harts fields.old result }
 {
     let hart = fields.hart(harts)?;
     let reg = fields.register()?;
@@ -75,8 +72,8 @@ pub(crate) fn fixed(fields: &mut Fields, harts: u8) -> Result<Line, LineFault>
 
 /// A page is given a frame.
 pub(crate) fn given(fields: &mut Fields, harts: u8) -> Result<Line, LineFault>
-    requires { fields.old.number ≡ 2 }
-    ensures { ReadsLine (codes "g") (tells name_of ∷ tells count_of ∷ tells count_of ∷ []) harts fields.old result }
+    requires { (left fields.old).number ≡ 2 }
+    ensures { ReadsLine given_form harts fields.old result }
 {
     let hart = fields.hart(harts)?;
     let object = fields.name()?;
@@ -93,8 +90,8 @@ pub(crate) fn given(fields: &mut Fields, harts: u8) -> Result<Line, LineFault>
 
 /// A page table entry is fixed.
 pub(crate) fn settled(fields: &mut Fields, harts: u8) -> Result<Line, LineFault>
-    requires { fields.old.number ≡ 2 }
-    ensures { ReadsLine (codes "m") (tells space_of ∷ tells hex_of ∷ tells hex_of ∷ []) harts fields.old result }
+    requires { (left fields.old).number ≡ 2 }
+    ensures { ReadsLine settled_form harts fields.old result }
 {
     let hart = fields.hart(harts)?;
     let space = fields.space()?;
@@ -111,8 +108,8 @@ pub(crate) fn settled(fields: &mut Fields, harts: u8) -> Result<Line, LineFault>
 
 /// Memory starts with bytes.
 pub(crate) fn touched(alloc: Global, fields: &mut Fields, harts: u8) -> Result<Line, LineFault>
-    requires { fields.old.number ≡ 2 }
-    ensures { ReadsLine (codes "y") (tells hex_of ∷ tells bytes_of ∷ []) harts fields.old result }
+    requires { (left fields.old).number ≡ 2 }
+    ensures { ReadsLine touched_form harts fields.old result }
 {
     let hart = fields.hart(harts)?;
     let at = fields.hex()?;
@@ -123,10 +120,10 @@ pub(crate) fn touched(alloc: Global, fields: &mut Fields, harts: u8) -> Result<L
 
 /// What a step did, from the hart on.
 pub(crate) fn step(fields: &mut Fields, harts: u8) -> Result<StepLine, LineFault>
-    requires { fields.old.number ≡ 2 }
+    requires { (left fields.old).number ≡ 2 }
     ensures { MatchResult result
-        (λ step. (left fields.old ≡ step_fields (effect_seen step)) × (step.hart < harts) × IsStep (effect_seen step))
-        (λ fault. IsWrongBy (tells (decimal_below harts) ∷ step_tests) fields.old fault) }
+        (λ step. ((left fields.old).fields ≡ step_fields (effect_seen step)) × (step.hart < harts) × IsStep (effect_seen step))
+        (λ fault. IsWrongBy (tests_behind harts step_tests) (left fields.old) fault) }
 {
     let hart = fields.hart(harts)?;
     let pc = fields.hex()?;
@@ -151,8 +148,8 @@ pub(crate) fn step(fields: &mut Fields, harts: u8) -> Result<StepLine, LineFault
 
 /// A request is done.
 pub(crate) fn done(fields: &mut Fields, harts: u8) -> Result<Line, LineFault>
-    requires { fields.old.number ≡ 2 }
-    ensures { ReadsLine (codes "d") (tells count_of ∷ []) harts fields.old result }
+    requires { (left fields.old).number ≡ 2 }
+    ensures { ReadsLine done_form harts fields.old result }
 {
     let hart = fields.hart(harts)?;
     let k = fields.count()?;
@@ -162,8 +159,8 @@ pub(crate) fn done(fields: &mut Fields, harts: u8) -> Result<Line, LineFault>
 
 /// A request is refused.
 pub(crate) fn refused(fields: &mut Fields, harts: u8) -> Result<Line, LineFault>
-    requires { fields.old.number ≡ 2 }
-    ensures { ReadsLine (codes "r") (tells count_of ∷ tells cause_of ∷ tells (number_of preambles) ∷ []) harts fields.old result }
+    requires { (left fields.old).number ≡ 2 }
+    ensures { ReadsLine refused_form harts fields.old result }
 {
     let hart = fields.hart(harts)?;
     let k = fields.count()?;

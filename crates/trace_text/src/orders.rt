@@ -4,8 +4,8 @@ ghost use Rattle.std.specs.Fmt.{decimal};
 ghost use Rattle.trace_text.specs.Text.{order_text, turns_of, turns_text};
 ghost use Rattle.trace_fields.specs.Fields.{fields_of, first_wrong};
 ghost use Rattle.trace_text.specs.Orders.{IsOrder, turns, order_fault, order_tests, number_in, most_steps};
-ghost use Rattle.trace_text.specs.Reading.{IsFault, turns_fault};
-ghost use Rattle.trace_fields.specs.Taking.{IsFaultIn};
+ghost use Rattle.trace_text.specs.Reading.{turns_fault};
+ghost use Rattle.trace_fields.specs.Taking.{IsFault, IsWrongBy, whole_line};
 
 use crate::reading::{HEADER_FIELDS, at_end, header};
 use crate::turns::Turns;
@@ -89,14 +89,14 @@ fn turns_of(
     last: Option<u8>,
     steps: usize,
 ) -> Result<Turns, LineFault>
-    requires { steps ≤ 1048576 }
+    requires { steps ≤ most_steps }
     ensures { let fields = fields_of text.now in
         let tests = order_tests (turns harts last steps) fields in
         MatchResult result
         (λ told. (first_wrong 1 tests fields ≡ None) × (told.hart ≡ number_in fields 0) × (told.count ≡ number_in fields 1)
-        × (fields ≡ decimal told.hart ∷ decimal told.count ∷ []) × (told.hart < harts) × (1 ≤ told.count) × (told.count + steps ≤ 1048576)
+        × (fields ≡ decimal told.hart ∷ decimal told.count ∷ []) × (told.hart < harts) × (1 ≤ told.count) × (told.count + steps ≤ most_steps)
         × IfSome last (λ before. before ≢ told.hart))
-        (λ fault. IsFaultIn tests line fields fault) }
+        (λ fault. IsWrongBy tests (whole_line line fields) fault) }
 {
     let mut fields = Fields::of(line, text);
     let hart = fields.other_hart(harts, last)?;

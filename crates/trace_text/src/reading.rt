@@ -5,7 +5,7 @@ ghost use Rattle.rv_fields.specs.Play.{most_harts};
 ghost use Rattle.trace_fields.specs.Fields.{fields_of, first_wrong};
 ghost use Rattle.trace_text.specs.Text.{header_fields};
 ghost use Rattle.trace_text.specs.Orders.{header_tests, number_in};
-ghost use Rattle.trace_fields.specs.Taking.{IsFaultIn};
+ghost use Rattle.trace_fields.specs.Taking.{IsWrongBy, whole_line};
 
 use rv_fields::MOST_HARTS;
 use trace_fields::{Fields, LineFault};
@@ -19,7 +19,7 @@ pub(crate) fn header(text: &[u8], kind: &str) -> Result<u8, LineFault>
         MatchResult result
         (λ harts. (first_wrong 1 (header_tests kind.now) fields ≡ None) × (harts ≡ number_in fields 2)
         × (fields ≡ header_fields kind.now harts) × (1 ≤ harts) × (harts ≤ most_harts))
-        (λ fault. IsFaultIn (header_tests kind.now) 1 fields fault) }
+        (λ fault. IsWrongBy (header_tests kind.now) (whole_line 1 fields) fault) }
 {
     let mut fields = Fields::of(1, text);
     fields.keyword(kind)?;

@@ -4,8 +4,7 @@ ghost use Rattle.trace_fields.specs.Fields.{fields_of};
 ghost use Rattle.trace_text.specs.Forms.{lines_of_text};
 ghost use Rattle.trace_text.specs.Lines as model;
 ghost use Rattle.trace_text.specs.Traces.{IsTrace, IsLine, trace_fault, trace_tests};
-ghost use Rattle.trace_text.specs.Reading.{IsFault};
-ghost use Rattle.trace_fields.specs.Taking.{IsFaultIn};
+ghost use Rattle.trace_fields.specs.Taking.{IsFault, IsWrongBy, whole_line};
 ghost use Rattle.trace_text.specs.Views.{line_seen, lines_seen};
 
 use crate::line::Line;
@@ -131,7 +130,7 @@ fn read_line(alloc: Global, number: u64, harts: u8, text: &[u8]) -> Result<Line,
     ensures { let fields = fields_of text.now in
         MatchResult result
         (λ line. (fields ≡ line_fields (line_seen line)) × IsLine harts (line_seen line))
-        (λ fault. IsFaultIn (trace_tests (Some harts) fields) number fields fault) }
+        (λ fault. IsWrongBy (trace_tests (Some harts) fields) (whole_line number fields) fault) }
 {
     let mut fields = Fields::of(number, text);
     let fault = fields.fault();

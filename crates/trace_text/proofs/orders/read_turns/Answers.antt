@@ -3,7 +3,7 @@ use Rattle.trace_fields.specs.Fields.{fields_of}
 use Rattle.trace_text.specs.Forms.{lines_of_text, fault_from, wrong_in}
 use Rattle.trace_text.specs.Orders.{order_form, turns, number_in, order_tests}
 use Rattle.trace_text.specs.Reading.{turns_fault}
-use Rattle.trace_fields.specs.Taking.{IsFaultIn}
+use Rattle.trace_fields.specs.Taking.{IsWrongBy, whole_line}
 use Rattle.trace_text.proofs.Faults.{stops_here, goes_on}
 use Rattle.trace_fields.proofs.Taken.{handed_on}
 use Rattle.trace_text.proofs.OrdersTold.{counted}
@@ -16,8 +16,8 @@ returns-in_err-turns c =
     let fields = fields_of c.in-Some.first.now in
     let fault = c.in_err-turns.field-0.0 in
     let steps : c.len.result ≡ length c.loop-first.order.items = c.len.ensures ∙ c.loop-first.order.ok.0 in
-    let wrong : IsFaultIn (order_tests known fields) c.loop-first.line fields fault =
-    subst (λ n. IsFaultIn (order_tests (turns c.args.harts c.loop-first.last n) fields) c.loop-first.line fields fault) steps c.in_err-turns.ensures in
+    let wrong : IsWrongBy (order_tests known fields) (whole_line c.loop-first.line fields) fault =
+    subst (λ n. IsWrongBy (order_tests (turns c.args.harts c.loop-first.last n) fields) (whole_line c.loop-first.line fields) fault) steps c.in_err-turns.ensures in
     handed_on _ _ c.from_residual.result fault c.from_residual.ensures.1
     (stops_here order_form known c.loop-first.line c.loop-first.rest.now (turns_fault c.args.harts c.args.lines.now) c.loop-first.invariant.fault
     c.in-Some.first.now c.in-Some.behind.now fault c.in-Some.ensures.parts wrong)
