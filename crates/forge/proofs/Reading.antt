@@ -394,13 +394,13 @@ has_judged r old new elf order trace ending read same judged = record {
 -- a verdict is a cause
 pub judged_cause : (r : Replaying) (old new : State) (verdict : Verdict) → HasJudged (replay r) old new (ending_on verdict) → Causes (replay r) old new (ending_on verdict)
 judged_cause r old new (Agrees steps) judged = judged
-judged_cause r old new (Differs line field told found) judged = judged
+judged_cause r old new (Differs first) judged = judged
 
 -- the line that tells of it
 pub verdict_told : (verdict : Verdict) → verdict_text verdict ++ codes "\n" ≡ printed (ending_on verdict)
 verdict_told (Agrees steps) = append_assoc (codes "agrees ") (decimal steps ++ codes " steps") (codes "\n")
     ∙ ap (λ t. codes "agrees " ++ t) (append_assoc (decimal steps) (codes " steps") (codes "\n"))
-verdict_told (Differs line field told found) = refl
+verdict_told (Differs first) = refl
 
 -- a fault of the first file that has one stops it
 pub stopped_fault : (r : Replaying) (elf order trace : List ℕ) (fault : ReplayFault) → IsFaultOf elf order trace fault

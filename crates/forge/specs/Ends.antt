@@ -1,23 +1,25 @@
 -- How a command ends: why, what it leaves in the store, its status, and what it prints.
-use Rattle.std.specs.Prelude.{ℕ, suc, true, ◌≡◌, ◌↔◌, ◌≢◌, ◌<◌, ◌⊎◌, List, [], ◌∷◌, ◌++◌, length, take, codes, nat_lt, option_map, replicate, string_bytes, Option, Some, None, IfSome, IsSomeAnd, MatchOption, slice_get, if◌then◌else◌}
+use Rattle.std.specs.Prelude.{ℕ, suc, true, ◌≡◌, ◌↔◌, ◌≢◌, ◌<◌, ◌⊎◌, List, [], ◌∷◌, ◌++◌, length, take, codes, nat_lt, option_map, replicate, Option, Some, None, IfSome, IsSomeAnd, MatchOption, slice_get, if◌then◌else◌}
 use Rattle.std.specs.Fmt.{decimal}
 use Rattle.std.specs.List.{AllByRecursion}
 use Rattle.std.specs.Option.{option_or}
 use Rattle.choice_tree.specs.Forest.{Forest, forest_in}
 use Rattle.region_plan.specs.Plan.{Work, hart_count}
+use Rattle.trace_fields.specs.declared.fault.LineFault.TheVariants.{At}
 use Rattle.trace_fields.specs.Fields.{Place}
 use Rattle.trace_text.specs.Lines.{Line}
+use Rattle.trace_fields.specs.Messages.{message as line_message}
 use Rattle.trace_text.specs.Orders.{order_fault}
 use Rattle.trace_text.specs.Traces.{trace_fault}
 use Rattle.elf_file.specs.Faults.{fault_of}
-use Rattle.elf_file.specs.Messages.{message}
+use Rattle.elf_file.specs.Messages.{message as elf_message}
 use Rattle.rv_machine.specs.declared.reset.Reset.{Reset}
 use Rattle.trace_replay.specs.declared.verdict.Verdict.{Verdict}
 use Rattle.trace_replay.specs.declared.verdict.Verdict.TheVariants.{Agrees, Differs}
 use Rattle.trace_replay.specs.Comparing.{Difference}
 use Rattle.trace_replay.specs.Passes.{PassesFrom}
 use Rattle.trace_replay.specs.Verdicts as verdicts
-use Rattle.trace_replay.specs.Verdicts.{IsVerdict, difference_text}
+use Rattle.trace_replay.specs.Verdicts.{IsVerdict, difference_seen, difference_text}
 use Rattle.job_read.specs.Accepted.{job_in}
 use Rattle.store_face.specs.State.{Held, State, Rose}
 use Rattle.forge.specs.Words.{Command, Making, command_of, make_serial, replay}
@@ -100,15 +102,15 @@ unless_read name (Some value) = None
 abbrev pub if_faulty : {A : Type 0} → List ℕ → (A → List ℕ) → Option A → Option Ending
 if_faulty name text fault = option_map (λ fault. refused name (text fault)) fault
 
--- the wrong field of a line
+-- the wrong field of a line, as its fault is told
 abbrev pub place_text : Place → List ℕ
-place_text place = codes "line " ++ decimal place.line ++ codes " field " ++ decimal place.field
+place_text place = line_message (At place.line place.field)
 
 -- the first of the files whose content isn't accepted
 abbrev pub form_fault : Command → List (List ℕ) → Option Ending
 form_fault (make_serial m) (job ∷ trees ∷ []) = option_or (unless_read m.job (job_in job)) (unless_read m.trees (forest_in trees))
 form_fault (replay r) (elf ∷ order ∷ trace ∷ []) =
-    option_or (if_faulty r.elf message (fault_of elf))
+    option_or (if_faulty r.elf elf_message (fault_of elf))
     (option_or (if_faulty r.order place_text (order_fault order)) (if_faulty r.trace place_text (trace_fault trace)))
 form_fault c contents = None
 
@@ -195,8 +197,7 @@ zeros = record { x = replicate 31 0; csrs = replicate 19 0 }
 -- what the verdict ends the command with
 abbrev pub ending_on : Verdict → Ending
 ending_on (Agrees steps) = agrees steps
-ending_on (Differs line field told found) =
-    differs (record { line = line; field = field; told = string_bytes told.text; found = string_bytes found.text })
+ending_on (Differs first) = differs (difference_seen first)
 
 -- The verdict on three files from the reset with zeros in all registers. It agrees exactly where they pass from it.
 pub record IsJudged (elf order trace : List ℕ) (ending : Ending) : Type 0 where

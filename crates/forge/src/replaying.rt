@@ -112,6 +112,6 @@ fn status_of(verdict: &Verdict) -> u8
 {
     match verdict {
         Verdict::Agrees { .. } => 0,
-        Verdict::Differs { .. } => 1,
+        Verdict::Differs(_) => 1,
     }
 }

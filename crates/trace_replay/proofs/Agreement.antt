@@ -96,13 +96,13 @@ all_named harts (h ∷ order) named = (named 0 0 (omega arith), all_named harts 
 agreed : (v : Verdict) (count : ℕ) (d : Option Difference) → IsOf v count d → agrees v ≡ true → d ≡ None
 agreed (Agrees steps) count None is ok = refl
 agreed (Agrees steps) count (Some d) is ok = absurd is
-agreed (Differs line field told found) count None is ok = absurd is
-agreed (Differs line field told found) count (Some d) is ok = absurd cc
+agreed (Differs first) count None is ok = absurd is
+agreed (Differs first) count (Some d) is ok = absurd cc
 
 agreeing : (v : Verdict) (count : ℕ) (d : Option Difference) → IsOf v count d → d ≡ None → agrees v ≡ true
 agreeing (Agrees steps) count d is none = refl
-agreeing (Differs line field told found) count None is none = absurd is
-agreeing (Differs line field told found) count (Some d) is none = absurd cc
+agreeing (Differs first) count None is none = absurd is
+agreeing (Differs first) count (Some d) is none = absurd cc
 
 same_harts : (told harts : ℕ) (d : Option Difference) → option_or (harts_differ told harts) d ≡ None → told ≡ harts
 same_harts told harts d none = elim (eqb_tells told harts) [

@@ -2,7 +2,6 @@
 use Rattle.std.proofs.Common.{ℕ, suc, ◌+◌, ◌≡◌, List, [], ◌∷◌, ◌++◌, length, length-append, append-nil, append_assoc, Option, Some, None, option_map, refl, sym, ap, subst, ◌∙◌, arith}
 use Rattle.std.specs.List.{cons_option, flat_map}
 use Rattle.std.specs.Option.{option_map_or, option_or}
-use Rattle.std.specs.Fmt.{decimal}
 use Rattle.std.proofs.lemmas.Grind.{flat_map-append}
 use Rattle.std.proofs.lemmas.List.Elements.{filter_map-append}
 use Rattle.rv_fields.specs.Effect.{Effect}
@@ -13,10 +12,10 @@ use Rattle.trace_text.specs.declared.trace_lines.TraceLines.{TraceLines}
 use Rattle.trace_text.specs.Text.{line_body, line_text, newline, step_fields}
 use Rattle.trace_text.proofs.Unread.{reads_on}
 use Rattle.trace_replay.specs.declared.comparison.Comparison.{Comparison}
-use Rattle.trace_replay.specs.declared.comparison.Difference as code
-use Rattle.trace_replay.specs.declared.verdict.LineField.TheVariants.{Hart}
-use Rattle.trace_replay.specs.Comparing.{Difference, StepAt, compared_fields, fields_differ, no_step, steps_at, steps_differ}
-use Rattle.trace_replay.specs.Judging.{IsCompared, IsComparedBy, IsFinished, compared, difference_seen, left_to_compare, unmade}
+use Rattle.trace_replay.specs.declared.verdict.Difference as code
+use Rattle.trace_replay.specs.Comparing.{Difference, StepAt, compared_fields, fields_differ, steps_at, steps_differ, unmade, untold}
+use Rattle.trace_replay.specs.Judging.{IsCompared, IsComparedBy, IsFinished, compared, left_to_compare}
+use Rattle.trace_replay.specs.Verdicts.{difference_seen}
 use Rattle.trace_replay.proofs.Differing.{effects_at, effects_of_steps}
 
 -- ---- lines
@@ -98,7 +97,7 @@ module _ (start : Unread) (read skipped : List Line) (behind : List Effect) wher
   pub none_read : (left new : List ℕ) (found : Effect) (n : ℕ)
       → FirstIs start read left behind None → left ≡ flat_map line_text skipped ++ new → new ≡ [] → effects_of skipped ≡ []
       → n ≡ start.number + length read + length skipped
-      → FirstIs start (read ++ skipped) new (behind ++ found ∷ []) (Some (record { line = n; field = Hart; told = no_step; found = decimal found.hart }))
+      → FirstIs start (read ++ skipped) new (behind ++ found ∷ []) (Some (untold n found))
   none_read left new found n so_far text ended none number rest text_is more =
       let nothing_left : rest ≡ [] = no_lines rest (sym ended ∙ text_is) in
       let whole : (read ++ skipped) ++ rest ≡ read ++ skipped = ap (λ ls. (read ++ skipped) ++ ls) nothing_left ∙ append-nil (read ++ skipped) in
@@ -106,7 +105,7 @@ module _ (start : Unread) (read skipped : List Line) (behind : List Effect) wher
       ∙ ap (compared start (read ++ skipped)) (append_assoc behind (found ∷ []) more)
       ∙ so_far skipped (text ∙ ap (λ (t : List ℕ). flat_map line_text skipped ++ t) ended ∙ append-nil (flat_map line_text skipped)) (found ∷ more)
       ∙ ap (λ ss. steps_differ (start.number + length (read ++ skipped)) ss (found ∷ more)) (no_steps (start.number + length read) skipped none)
-      ∙ ap (λ k. Some (record { line = k; field = Hart; told = no_step; found = decimal found.hart }))
+      ∙ ap (λ k. Some (untold k found))
       (omega (arith, length-append read skipped, number))
 
 -- what the code keeps, where the next step line is read and compared
@@ -135,7 +134,7 @@ pub compared_end : (start : Unread) (behind : List Effect) (old mid new : Compar
     → IsCompared start behind old → old.first ≡ None
     → HasRead skipped (unread old.lines) (unread mid.lines) → effects_of skipped ≡ [] → mid.steps ≡ old.steps
     → HasRead [] (unread mid.lines) (unread new.lines) → (unread new.lines).text ≡ [] → new.steps ≡ mid.steps → n ≡ new.lines.number
-    → difference_seen first ≡ record { line = n; field = Hart; told = no_step; found = decimal found.hart }
+    → difference_seen first ≡ untold n found
     → IsComparedBy start (behind ++ found ∷ []) new.lines new.steps (Some first)
 compared_end start behind old mid new skipped found n first is none skips no_step_in same reads ended steps number differs =
     let both : HasRead (skipped ++ []) (unread old.lines) (unread new.lines) = reads_on skips reads in
@@ -195,17 +194,17 @@ module _ (start : Unread) (read : List Line) (behind : List Effect) (line : Line
 
   -- a step line is read, whose step nobody made
   pub lacking_read : (first : Option Difference) (told : Effect) (n : ℕ) → Remains start read left behind first → effect_of line ≡ Some told → n ≡ start.number + length read
-      → Remains start (read ++ line ∷ []) new behind (option_or first (Some (record { line = n; field = Hart; told = decimal told.hart; found = no_step })))
+      → Remains start (read ++ line ∷ []) new behind (option_or first (Some (unmade n told)))
   lacking_read first told n so_far is number rest text_is =
       ap (λ ls. compared start ls behind) (sym (front rest))
       ∙ so_far (line ∷ rest) (text_on left new (line ∷ []) rest text text_is)
       ∙ ap (λ m. option_or first (steps_differ (start.number + length (read ++ line ∷ rest))
       (option_map_or (λ (e : Effect). record { line = start.number + length read; effect = e } ∷ steps_at (start.number + length read + 1) rest) m (steps_at (start.number + length read + 1) rest)) [])) is
-      ∙ ap (λ k. option_or first (Some (record { line = k; field = Hart; told = decimal told.hart; found = no_step }))) (sym number)
+      ∙ ap (λ k. option_or first (Some (unmade k told))) (sym number)
       ∙ of first (left_to_compare start (read ++ line ∷ []) rest [])
     where
-      of : (first : Option Difference) (d : Option Difference) → option_or first (Some (record { line = n; field = Hart; told = decimal told.hart; found = no_step }))
-          ≡ option_or (option_or first (Some (record { line = n; field = Hart; told = decimal told.hart; found = no_step }))) d
+      of : (first : Option Difference) (d : Option Difference) → option_or first (Some (unmade n told))
+          ≡ option_or (option_or first (Some (unmade n told))) d
       of None d = refl
       of (Some x) d = refl
 

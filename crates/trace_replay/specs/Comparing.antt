@@ -97,11 +97,18 @@ steps_at number [] = []
 steps_at number (line ∷ lines) =
     option_map_or (λ (e : Effect). record { line = number; effect = e } ∷ steps_at (number + 1) lines) (effect_of line) (steps_at (number + 1) lines)
 
--- A step that one side lacks differs in its hart. One that the trace lacks is told of the line behind its last.
+-- A step that one side lacks differs in its hart: one that the line tells and nobody made, and one that the trace lacks, which is told
+-- of the line behind its last.
+abbrev pub unmade : ℕ → Effect → Difference
+unmade line e = record { line = line; field = Hart; told = decimal e.hart; found = no_step }
+
+abbrev pub untold : ℕ → Effect → Difference
+untold line e = record { line = line; field = Hart; told = no_step; found = decimal e.hart }
+
 abbrev pub steps_differ : ℕ → List StepAt → List Effect → Option Difference
 steps_differ behind [] [] = None
-steps_differ behind [] (e ∷ effects) = Some (record { line = behind; field = Hart; told = no_step; found = decimal e.hart })
-steps_differ behind (s ∷ steps) [] = Some (record { line = s.line; field = Hart; told = decimal s.effect.hart; found = no_step })
+steps_differ behind [] (e ∷ effects) = Some (untold behind e)
+steps_differ behind (s ∷ steps) [] = Some (unmade s.line s.effect)
 steps_differ behind (s ∷ steps) (e ∷ effects) =
     option_or (fields_differ s.line compared_fields (step_fields s.effect) (step_fields e)) (steps_differ behind steps effects)
 

@@ -1,26 +1,36 @@
 -- How far the code has come with a comparison.
-use Rattle.std.specs.Prelude.{ℕ, ◌+◌, ◌<◌, ◌^◌, ◌≡◌, List, [], ◌∷◌, ◌++◌, length, take, nat_le, if◌then◌else◌, string_bytes, slice_get, slice_index, Option, Some, None, option_map}
-use Rattle.std.specs.Fmt.{decimal}
+use Rattle.std.specs.Prelude.{ℕ, ◌+◌, ◌<◌, ◌^◌, ◌≡◌, List, [], ◌∷◌, ◌++◌, length, take, nat_le, if◌then◌else◌, slice_get, slice_index, Option, Some, None, option_map}
 use Rattle.std.specs.List.{AllByRecursion, flat_map}
 use Rattle.std.specs.Option.{option_or}
 use Rattle.rv_fields.specs.Effect.{Effect}
 use Rattle.rv_fields.specs.Play.{Machine, Plays}
 use Rattle.rv_machine.specs.declared.reset.Reset.{Reset}
+use Rattle.trace_fields.specs.declared.fault.LineFault.TheVariants as line_fault
 use Rattle.trace_text.specs.declared.trace_lines.TraceLines.{TraceLines}
 use Rattle.trace_text.specs.Lines.{Line, effects_of}
 use Rattle.trace_text.specs.Reading.{HasRead, Unread, unread}
 use Rattle.trace_text.specs.Text.{line_text}
 use Rattle.boot_words.specs.Booting.{boot_steps}
 use Rattle.boot_words.specs.Passing.{behind_boots, effects_by}
+use Rattle.elf_file.specs.declared.fault.ElfFault.TheVariants as elf_fault
 use Rattle.trace_replay.specs.declared.boot.Boot.{Boot}
 use Rattle.trace_replay.specs.declared.comparison.Comparison.{Comparison}
-use Rattle.trace_replay.specs.declared.comparison.Difference as code
 use Rattle.trace_replay.specs.declared.judge.Judge.{Judge}
+use Rattle.trace_replay.specs.declared.verdict.Difference as code
 use Rattle.trace_replay.specs.declared.verdict.LineField.{LineField}
-use Rattle.trace_replay.specs.declared.verdict.LineField.TheVariants.{Hart}
-use Rattle.trace_replay.specs.declared.verdict.Verdict.{Verdict}
-use Rattle.trace_replay.specs.declared.verdict.Verdict.TheVariants.{Differs}
-use Rattle.trace_replay.specs.Comparing.{Difference, no_step, returns, steps_at, steps_differ, untrapped}
+use Rattle.trace_replay.specs.declared.verdict.ReplayFault.{ReplayFault}
+use Rattle.trace_replay.specs.declared.verdict.ReplayFault.TheVariants.{Elf, Order, Trace, Memory}
+use Rattle.trace_replay.specs.Comparing.{Difference, returns, steps_at, steps_differ, untrapped}
+use Rattle.trace_replay.specs.Verdicts.{difference_seen}
+
+-- ---- faults
+
+-- a fault as it is handed on: want of memory is told as such, whichever file was read
+abbrev pub handed_on : ReplayFault → ReplayFault
+handed_on (Elf elf_fault.Memory) = Memory
+handed_on (Order line_fault.Memory) = Memory
+handed_on (Trace line_fault.Memory) = Memory
+handed_on fault = fault
 
 -- ---- resets
 
@@ -40,21 +50,10 @@ pub record IsBootOf (boot : Boot) (effects : List Effect) : Type 0 where
 
 -- ---- differences
 
-abbrev pub difference_seen : code.Difference → Difference
-difference_seen d = record { line = d.line; field = d.field; told = string_bytes d.told.text; found = string_bytes d.found.text }
-
--- the verdict that tells the difference
-abbrev pub verdict_on : code.Difference → Verdict
-verdict_on d = Differs d.line d.field d.told d.found
-
 -- the difference in the field of the line, with what is shown as its spellings
 abbrev pub IsShown : ℕ → LineField → Option (List ℕ) → Option (List ℕ) → code.Difference → Type 0
 IsShown line field (Some told) (Some found) d = difference_seen d ≡ record { line = line; field = field; told = told; found = found }
 IsShown line field told found d = Unit {0}
-
--- the difference in the line of a step that nobody made
-abbrev pub unmade : ℕ → Effect → Difference
-unmade line e = record { line = line; field = Hart; told = decimal e.hart; found = no_step }
 
 -- ---- steps
 

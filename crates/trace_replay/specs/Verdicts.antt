@@ -12,6 +12,7 @@ use Rattle.trace_fields.specs.Taking.{IsFault}
 use Rattle.trace_text.specs.Traces.{trace_fault}
 use Rattle.elf_file.specs.declared.fault.ElfFault.TheVariants as elf_fault
 use Rattle.elf_file.specs.Faults.{fault_of}
+use Rattle.trace_replay.specs.declared.verdict.Difference as code
 use Rattle.trace_replay.specs.declared.verdict.ReplayFault.{ReplayFault}
 use Rattle.trace_replay.specs.declared.verdict.ReplayFault.TheVariants.{Elf, Order, Trace, Memory}
 use Rattle.trace_replay.specs.declared.verdict.Verdict.{Verdict}
@@ -19,13 +20,16 @@ use Rattle.trace_replay.specs.declared.verdict.Verdict.TheVariants.{Agrees, Diff
 use Rattle.trace_replay.specs.Comparing.{Difference, difference, field_name}
 use Rattle.trace_replay.specs.Passes.{AreFiles, machine_at}
 
+-- a difference without where its texts lie in memory
+abbrev pub difference_seen : code.Difference → Difference
+difference_seen d = record { line = d.line; field = d.field; told = string_bytes d.told.text; found = string_bytes d.found.text }
+
 -- The verdict on so many step lines, where this is the first difference.
 abbrev pub IsOf : Verdict → ℕ → Option Difference → Type 0
 IsOf (Agrees steps) count None = steps ≡ count
 IsOf (Agrees steps) count (Some d) = ⊥
-IsOf (Differs line field told found) count None = ⊥
-IsOf (Differs line field told found) count (Some d) =
-    d ≡ record { line = line; field = field; told = string_bytes told.text; found = string_bytes found.text }
+IsOf (Differs first) count None = ⊥
+IsOf (Differs first) count (Some d) = d ≡ difference_seen first
 
 -- The verdict on three files from this reset of each hart: that of the first difference between their trace and the play.
 pub record IsVerdict (reset : Reset) (elf order_file trace_file : List ℕ) (verdict : Verdict) : Type 0 where
@@ -41,7 +45,7 @@ pub record IsVerdict (reset : Reset) (elf order_file trace_file : List ℕ) (ver
 
 abbrev pub agrees : Verdict → Bool
 agrees (Agrees steps) = true
-agrees (Differs line field told found) = false
+agrees (Differs first) = false
 
 -- the fault of a trace, or memory ran out
 abbrev pub IsTraceFault : Option Place → ReplayFault → Type 0
@@ -66,5 +70,4 @@ difference_text d = codes "line " ++ decimal d.line ++ codes " field " ++ field_
 
 abbrev pub verdict_text : Verdict → List ℕ
 verdict_text (Agrees steps) = codes "agrees " ++ decimal steps ++ codes " steps"
-verdict_text (Differs line field told found) =
-    difference_text (record { line = line; field = field; told = string_bytes told.text; found = string_bytes found.text })
+verdict_text (Differs first) = difference_text (difference_seen first)

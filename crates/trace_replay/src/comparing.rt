@@ -1,6 +1,5 @@
 //! A trace beside the steps that it is to tell.
 ghost use Rattle.std.specs.Prelude.{◌≡◌, ◌≢◌, ◌≤◌, ◌<◌, ◌+◌, ◌∷◌, ◌++◌, [], ℕ, List, Some, None, IfOk, IfErr, IfSome, OnOk, MatchResult, length, option_map};
-ghost use Rattle.std.specs.Fmt.{decimal};
 ghost use Rattle.std.specs.Option.{option_or};
 ghost use Rattle.rv_fields.specs.declared.mode.Mode.TheVariants.{U};
 ghost use Rattle.rv_fields.specs.Effect.{Effect};
@@ -9,14 +8,13 @@ ghost use Rattle.trace_text.specs.Reading.{Unread, unread, unread_fault};
 ghost use Rattle.trace_text.specs.Lines.{effect_of, effects_of};
 ghost use Rattle.trace_text.specs.Text.{step_fields};
 ghost use Rattle.trace_text.specs.Views.{line_seen};
-ghost use Rattle.trace_replay.specs.declared.verdict.LineField.TheVariants.{Hart};
-ghost use Rattle.trace_replay.specs.Comparing.{compared_fields, field_differs, fields_differ, no_step};
+ghost use Rattle.trace_replay.specs.Comparing.{compared_fields, field_differs, fields_differ, unmade};
 ghost use Rattle.trace_replay.specs.Shown.{field_text, shown_seen};
-ghost use Rattle.trace_replay.specs.Judging.{difference_seen, unmade};
+ghost use Rattle.trace_replay.specs.Verdicts.{difference_seen};
 
-use crate::comparison::{Comparison, Difference};
+use crate::comparison::Comparison;
 use crate::shown::{FieldOf, Shown};
-use crate::verdict::{LineField, ReplayFault, Text};
+use crate::verdict::{Difference, LineField, ReplayFault, Text};
 use rv_fields::NoMemory;
 use rv_machine::Stepped;
 use std::alloc::Global;
@@ -123,21 +121,22 @@ impl<'a> Comparison<'a> {
     {
         if let Some(told) = step_of(line) {
             self.steps += 1;
-            self.lack_step(alloc, told.hart)?;
+            self.lack_step(alloc, &told)?;
         }
         Ok(())
     }
 
-    /// Nobody made the step that the line before the next one tells of this hart.
-    fn lack_step(&mut self, alloc: Global, hart: u8) -> Result<(), NoMemory>
+    /// Nobody made the step that the line before the next one tells.
+    fn lack_step(&mut self, alloc: Global, told: &Shown) -> Result<(), NoMemory>
         ensures first { OnOk result ((line : ℕ) → line + 1 ≡ self.old.lines.number → option_map difference_seen self.new.first
-            ≡ option_or (option_map difference_seen self.old.first) (Some (record { line = line; field = Hart; told = decimal hart; found = no_step }))) }
+            ≡ option_or (option_map difference_seen self.old.first) (Some (unmade line (shown_seen told.now)))) }
         ensures lines { self.new.lines ≡ self.old.lines }
         ensures steps { self.new.steps ≡ self.old.steps }
     {
         if self.first.is_none() {
             let line = self.lines.number() - 1;
-            self.first = Some(Difference::of(alloc, line, LineField::Hart, hart, NO_STEP)?);
+            let unmade = Difference::of(alloc, line, LineField::Hart, told.hart, NO_STEP)?;
+            self.first = Some(unmade);
         }
         Ok(())
     }

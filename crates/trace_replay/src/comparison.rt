@@ -1,16 +1,7 @@
 ghost use Rattle.std.specs.Prelude.{◌<◌};
 
-use crate::verdict::{LineField, Text};
+use crate::verdict::Difference;
 use trace_text::TraceLines;
-
-/// A field of a line that is spelled otherwise.
-#[derive(Debug, Drop)]
-pub(crate) struct Difference {
-    pub(crate) line: u64,
-    pub(crate) field: LineField,
-    pub(crate) told: Text,
-    pub(crate) found: Text,
-}
 
 /// A trace beside the steps behind the boots, as far as both have come.
 #[derive(Debug, Drop)]

@@ -12,8 +12,8 @@ ghost use Rattle.trace_replay.specs.Comparing.{boots_differ, difference, steps_a
 ghost use Rattle.trace_replay.specs.Verdicts.{IsOf};
 
 use crate::boot::Boot;
-use crate::comparison::{Comparison, Difference};
-use crate::verdict::{LineField, ReplayFault, Verdict};
+use crate::comparison::Comparison;
+use crate::verdict::{Difference, LineField, ReplayFault, Verdict};
 use rv_fields::{MOST_HARTS, NoMemory};
 use rv_machine::{Machine, Stepped};
 use std::alloc::Global;
@@ -27,8 +27,8 @@ pub(crate) struct Judge<'a> {
 }
 
 impl<'a> Judge<'a> {
-    ghost use Rattle.trace_replay.specs.Judging.{AreBoots, HasJudged, HasPlayed, IsFinished, difference_seen};
-    ghost use Rattle.trace_replay.specs.Verdicts.{IsTraceFault};
+    ghost use Rattle.trace_replay.specs.Judging.{AreBoots, HasJudged, HasPlayed, IsFinished};
+    ghost use Rattle.trace_replay.specs.Verdicts.{IsTraceFault, difference_seen};
 
     /// Before the first step.
     pub(crate) fn new(lines: TraceLines<'a>) -> Judge<'a>
@@ -92,13 +92,14 @@ impl<'a> Judge<'a> {
             → IsOf verdict (length (effects_of lines)) (difference told_harts harts lines effects)) }
     {
         if told_harts != harts {
-            return Ok(Difference::of(alloc, 1, LineField::Harts, told_harts, harts)?.into());
+            let difference = Difference::of(alloc, 1, LineField::Harts, told_harts, harts)?;
+            return Ok(Verdict::Differs(difference));
         }
         if let Some(difference) = self.boot_difference(alloc, harts)? {
-            return Ok(difference.into());
+            return Ok(Verdict::Differs(difference));
         }
         Ok(match self.comparison.first {
-            Some(difference) => difference.into(),
+            Some(difference) => Verdict::Differs(difference),
             None => Verdict::Agrees {
                 steps: self.comparison.steps,
             },
@@ -119,26 +120,5 @@ impl<'a> Judge<'a> {
             }
         }
         Ok(None)
-    }
-}
-
-impl From<Difference> for Verdict {
-    ghost use Rattle.trace_replay.specs.Judging.{verdict_on};
-
-    ghost from_gives = { λ difference verdict. verdict ≡ verdict_on difference };
-
-    fn from(difference: Difference) -> Verdict {
-        let Difference {
-            line,
-            field,
-            told,
-            found,
-        } = difference;
-        Verdict::Differs {
-            line,
-            field,
-            told,
-            found,
-        }
     }
 }

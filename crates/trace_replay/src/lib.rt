@@ -11,7 +11,7 @@ mod verdict;
 
 pub use replaying::replay;
 pub use rv_machine::Reset;
-pub use verdict::{LineField, ReplayFault, Text, Verdict};
+pub use verdict::{Difference, LineField, ReplayFault, Text, Verdict};
 
 #[cfg(test)]
 mod tests;

@@ -17,7 +17,7 @@ use crate::judge::Judge;
 use crate::verdict::{ReplayFault, Verdict};
 use elf_file::read_elf;
 use ram_image::Ram;
-use rv_fields::NoMemory;
+use rv_fields::{MOST_HARTS, NoMemory};
 use rv_machine::{Machine, Reset};
 use std::alloc::Global;
 use trace_text::{TraceLines, read_order};

@@ -14,7 +14,7 @@ use trace_fields::{AccessText, EntryText, Hex, OrNone, TrailText, TrapText, Word
 use trace_text::StepLine;
 
 /// What is compared of a step.
-#[derive(Clone, Copy, Debug, PartialEq, Eq)]
+#[derive(Clone, Copy, Debug)]
 pub(crate) struct Shown {
     pub(crate) hart: u8,
     pc: u64,

@@ -2,6 +2,7 @@ ghost use Rattle.std.specs.Prelude.{◌≡◌, ◌≢◌, Option, Some, string_b
 ghost use Rattle.trace_fields.specs.Fields.{Place};
 ghost use Rattle.trace_fields.specs.Taking.{IsFault};
 ghost use Rattle.trace_replay.specs.declared.verdict.ReplayFault.TheVariants.{Memory};
+ghost use Rattle.trace_replay.specs.Judging.{handed_on};
 ghost use Rattle.trace_replay.specs.Verdicts.{IsTraceFault};
 
 use elf_file::ElfFault;
@@ -60,20 +61,38 @@ impl Text {
     }
 }
 
+/// A field of a line that is spelled otherwise: the line of the trace, which counts from 1, the field, and both spellings.
+#[derive(Debug, Drop, PartialEq, Eq)]
+pub struct Difference {
+    pub line: u64,
+    pub field: LineField,
+    pub told: Text,
+    pub found: Text,
+}
+
+impl fmt::Display for Difference {
+    ghost use Rattle.trace_replay.specs.Verdicts.{difference_seen, difference_text};
+
+    ghost output = { λ difference. Some (difference_text (difference_seen difference)) };
+
+    fn fmt<W: fmt::Write>(&self, f: &mut fmt::Formatter<W>) -> fmt::Result {
+        write!(f, "line {} field {}", self.line, self.field)?;
+        write!(
+            f,
+            " told {} found {}",
+            self.told.text.as_str(),
+            self.found.text.as_str()
+        )
+    }
+}
+
 /// Whether a trace tells what the program does.
 #[derive(Debug, Drop, PartialEq, Eq)]
 pub enum Verdict {
     /// It does. The trace has so many step lines.
-    Agrees {
-        steps: u64,
-    },
-    /// It doesn't. This is the first difference: the line of the trace, which counts from 1, its field, and both spellings.
-    Differs {
-        line: u64,
-        field: LineField,
-        told: Text,
-        found: Text,
-    },
+    Agrees { steps: u64 },
+    /// It doesn't. This is the first difference.
+    Differs(Difference),
 }
 
 impl fmt::Display for Verdict {
@@ -84,20 +103,7 @@ impl fmt::Display for Verdict {
     fn fmt<W: fmt::Write>(&self, f: &mut fmt::Formatter<W>) -> fmt::Result {
         match self {
             Verdict::Agrees { steps } => write!(f, "agrees {steps} steps"),
-            Verdict::Differs {
-                line,
-                field,
-                told,
-                found,
-            } => {
-                write!(f, "line {line} field {field}")?;
-                write!(
-                    f,
-                    " told {} found {}",
-                    told.text.as_str(),
-                    found.text.as_str()
-                )
-            }
+            Verdict::Differs(difference) => write!(f, "{difference}"),
         }
     }
 }
@@ -117,20 +123,14 @@ impl ReplayFault {
         ensures memory { fault ≡ ElfFault.Memory → result ≡ ReplayFault.Memory }
         ensures other { fault ≢ ElfFault.Memory → result ≡ ReplayFault.Elf fault }
     {
-        match fault {
-            ElfFault::Memory => ReplayFault::Memory,
-            fault => ReplayFault::Elf(fault),
-        }
+        ReplayFault::Elf(fault).handed_on()
     }
 
     pub(crate) fn of_order(fault: LineFault) -> ReplayFault
         ensures memory { fault ≡ LineFault.Memory → result ≡ ReplayFault.Memory }
         ensures other { fault ≢ LineFault.Memory → result ≡ ReplayFault.Order fault }
     {
-        match fault {
-            LineFault::Memory => ReplayFault::Memory,
-            fault => ReplayFault::Order(fault),
-        }
+        ReplayFault::Order(fault).handed_on()
     }
 
     pub(crate) fn of_trace(fault: LineFault) -> ReplayFault
@@ -138,9 +138,18 @@ impl ReplayFault {
         ensures other { fault ≢ LineFault.Memory → result ≡ ReplayFault.Trace fault }
         ensures place { (place : Option Place) → IsFault place fault → IsTraceFault place result }
     {
-        match fault {
-            LineFault::Memory => ReplayFault::Memory,
-            fault => ReplayFault::Trace(fault),
+        ReplayFault::Trace(fault).handed_on()
+    }
+
+    /// As it is handed on: want of memory is told as such, whichever file was read.
+    fn handed_on(self) -> ReplayFault
+        ensures { result ≡ handed_on self }
+    {
+        match self {
+            ReplayFault::Elf(ElfFault::Memory)
+            | ReplayFault::Order(LineFault::Memory)
+            | ReplayFault::Trace(LineFault::Memory) => ReplayFault::Memory,
+            fault => fault,
         }
     }
 }

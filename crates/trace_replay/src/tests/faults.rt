@@ -78,16 +78,11 @@ fn the_parts_of_a_difference(rt: HostRuntime) -> Result<(), Fail> {
     assert_eq!(rt; printed.as_str(), "line 3 field rd told 1:6 found 1:5");
     match verdict {
         Verdict::Agrees { .. } => assert!(rt; false),
-        Verdict::Differs {
-            line,
-            field,
-            told,
-            found,
-        } => {
-            assert_eq!(rt; line, 3);
-            assert_eq!(rt; field, LineField::Rd);
-            assert_eq!(rt; told.bytes(), b"1:6".as_slice());
-            assert_eq!(rt; found.bytes(), b"1:5".as_slice());
+        Verdict::Differs(difference) => {
+            assert_eq!(rt; difference.line, 3);
+            assert_eq!(rt; difference.field, LineField::Rd);
+            assert_eq!(rt; difference.told.bytes(), b"1:6".as_slice());
+            assert_eq!(rt; difference.found.bytes(), b"1:5".as_slice());
         }
     }
     Ok(())

@@ -1,5 +1,5 @@
 use Rattle.std.proofs.Common.{sym, ◌∙◌, arith}
-use Rattle.trace_replay.specs.Judging.{difference_seen}
+use Rattle.trace_replay.specs.Verdicts.{difference_seen}
 use Rattle.trace_replay.specs.Shown.{shown_seen}
 use Rattle.trace_replay.proofs.Fields.{next_is, next_is_not}
 use Rattle.trace_replay.proofs.comparing.step_difference.Goals as goal
