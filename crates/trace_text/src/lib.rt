@@ -6,6 +6,8 @@ mod line;
 mod lines;
 mod orders;
 mod reading;
+#[cfg(test)]
+mod tests;
 mod trace_lines;
 mod traces;
 mod turns;

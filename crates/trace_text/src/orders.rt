@@ -12,9 +12,6 @@ use crate::turns::Turns;
 use std::alloc::{AllocError, Global};
 use trace_fields::{Fields, LineFault, cut};
 
-#[cfg(test)]
-mod tests;
-
 /// No order has more steps.
 const MOST_STEPS: usize = 1_048_576;
 

@@ -14,9 +14,6 @@ use crate::trace_lines::TraceLines;
 use std::alloc::Global;
 use trace_fields::{Fields, LineFault, cut};
 
-#[cfg(test)]
-mod tests;
-
 impl<'a> TraceLines<'a> {
     ghost use Rattle.trace_text.specs.Reading.{Begins, ReadsNext, unread};
 

@@ -8,9 +8,6 @@ use crate::turns::Turns;
 use rv_fields::NoMemory;
 use std::fmt;
 
-#[cfg(test)]
-mod tests;
-
 /// Writes the trace of so many harts at the end of `into`.
 pub fn write_trace(harts: u8, lines: &[Line], into: &mut Vec<u8>) -> Result<(), NoMemory>
     ensures text { OnOk result (into.new.items ≡ into.old.items ++ trace_text harts (lines_seen lines.now)) }

@@ -1,11 +1,11 @@
 use super::*;
 use crate::request::{Cause, Kind};
 use rv_fields::{AccessKind, Accessed, Mode, Trap};
-use std::test::Fail;
+use std::test::*;
 
 #[test]
-fn shows_each_kind(rt: HostRuntime) -> Result<(), Fail> {
-    let kinds = [
+fn each_kind(rt: HostRuntime) {
+    for (kind, name) in [
         (Kind::Ins, "ins"),
         (Kind::Mem, "mem"),
         (Kind::Jump, "jump"),
@@ -15,17 +15,14 @@ fn shows_each_kind(rt: HostRuntime) -> Result<(), Fail> {
         (Kind::Loop, "loop"),
         (Kind::Pick, "pick"),
         (Kind::Set, "set"),
-    ];
-    for (kind, name) in kinds {
-        let shown = format!(in rt.alloc(); "{kind}")?;
-        assert_eq!(rt; shown.as_str(), name);
+    ] {
+        assert_eq!(rt; kind.name(), name);
     }
-    Ok(())
 }
 
 #[test]
-fn shows_each_cause(rt: HostRuntime) -> Result<(), Fail> {
-    let causes = [
+fn each_cause(rt: HostRuntime) {
+    for (cause, name) in [
         (Cause::EmptyChoice, "empty-choice"),
         (Cause::BudgetSpent, "budget-spent"),
         (Cause::NoRegister, "no-register"),
@@ -34,24 +31,27 @@ fn shows_each_cause(rt: HostRuntime) -> Result<(), Fail> {
         (Cause::WindowFull, "window-full"),
         (Cause::NoFreePage, "no-free-page"),
         (Cause::NoPlace, "no-place"),
-    ];
-    for (cause, name) in causes {
-        let shown = format!(in rt.alloc(); "{cause}")?;
-        assert_eq!(rt; shown.as_str(), name);
+    ] {
+        assert_eq!(rt; cause.name(), name);
     }
+}
+
+#[test]
+fn a_kind_and_a_cause_as_shown(rt: HostRuntime) -> Result<(), Fail> {
+    let shown = format!(in rt.alloc(); "{} {}", Kind::Loop, Cause::NoFreePage)?;
+    assert_eq!(rt; shown.as_str(), "loop no-free-page");
     Ok(())
 }
 
 #[test]
-fn shows_an_access_of_each_kind(rt: HostRuntime) -> Result<(), Fail> {
-    let kinds = [
+fn an_access_of_each_kind(rt: HostRuntime) -> Result<(), Fail> {
+    for (kind, text) in [
         (AccessKind::Load, "l:1000:80001000:8:ff:-"),
         (AccessKind::Store, "s:1000:80001000:8:ff:-"),
         (AccessKind::Lr, "r:1000:80001000:8:ff:-"),
         (AccessKind::Sc, "c:1000:80001000:8:ff:-"),
         (AccessKind::Amo, "a:1000:80001000:8:ff:-"),
-    ];
-    for (kind, text) in kinds {
+    ] {
         let access = AccessText::of(Accessed {
             kind,
             va: 0x1000,
@@ -67,20 +67,19 @@ fn shows_an_access_of_each_kind(rt: HostRuntime) -> Result<(), Fail> {
 }
 
 #[test]
-fn shows_a_trap_to_each_mode(rt: HostRuntime) -> Result<(), Fail> {
+fn a_trap_to_each_mode(rt: HostRuntime) -> Result<(), Fail> {
     let trap = Trap {
         cause: 13,
         epc: 0x8400_0010,
         tval: 0xdead,
         to: Mode::S,
     };
-    let shown = format!(in rt.alloc(); "{}", TrapText::of(trap))?;
-    assert_eq!(rt; shown.as_str(), "13:84000010:dead:S");
     let to_machine = Trap {
         to: Mode::M,
         ..trap
     };
-    let shown = format!(in rt.alloc(); "{}", TrapText::of(to_machine))?;
-    assert_eq!(rt; shown.as_str(), "13:84000010:dead:M");
+    let (s, m) = (TrapText::of(trap), TrapText::of(to_machine));
+    let shown = format!(in rt.alloc(); "{s} {m}")?;
+    assert_eq!(rt; shown.as_str(), "13:84000010:dead:S 13:84000010:dead:M");
     Ok(())
 }
