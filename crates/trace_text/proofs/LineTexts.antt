@@ -4,6 +4,7 @@ use Rattle.std.specs.Prelude.{MatchOption}
 use Rattle.std.specs.List.{AllByRecursion, AllZip}
 use Rattle.std.specs.Fmt.{decimal}
 use Rattle.std.proofs.lemmas.Bool.{cond-true}
+use Rattle.rv_fields.specs.Play.{most_harts}
 use Rattle.rv_fields.specs.Effect.{Effect}
 use Rattle.trace_text.specs.Lines.{Line, request, picked, weighed, fixed, given, settled, touched, made, found, ending, done, refused}
 use Rattle.trace_fields.specs.Text.{hex, word_text, or_none, write_text, access_text, trap_text}
@@ -19,7 +20,7 @@ use Rattle.trace_fields.proofs.WordBytes.{IsVisible, or_none_visible, there_fits
 use Rattle.trace_fields.proofs.Spells.{Spells}
 use Rattle.trace_fields.proofs.Spellings as spellings
 
-module _ (harts : ℕ) (most : harts ≤ 16) where
+module _ (harts : ℕ) (most : harts ≤ most_harts) where
   hart_visible : (h : ℕ) → h < harts → IsVisible (decimal h)
   hart_visible h below = decimal_visible h (omega arith)
 
@@ -108,10 +109,10 @@ some_fields (ending e) = omega arith
 some_fields (done hart k) = omega arith
 some_fields (refused hart k cause preamble) = omega arith
 
-pub fields_again : (harts : ℕ) → harts ≤ 16 → (l : Line) → IsLine harts l → fields_of (line_body l) ≡ line_fields l
+pub fields_again : (harts : ℕ) → harts ≤ most_harts → (l : Line) → IsLine harts l → fields_of (line_body l) ≡ line_fields l
 fields_again harts most l is = cut_fields (line_fields l) (some_fields l) (fields_visible harts most l is)
 
-pub body_lacks_newline : (harts : ℕ) → harts ≤ 16 → (l : Line) → IsLine harts l → Lacks 0x0a (line_body l)
+pub body_lacks_newline : (harts : ℕ) → harts ≤ most_harts → (l : Line) → IsLine harts l → Lacks 0x0a (line_body l)
 body_lacks_newline harts most l is = no_newline (line_fields l) (fields_visible harts most l is)
 
 -- The fields of a line pass the tests of its kind.
@@ -136,7 +137,7 @@ there_passes : {A : Type 0} {text : A → List ℕ} {reading : List ℕ → Opti
 there_passes spells None there = absurd there
 there_passes spells (Some a) there = passes spells a there
 
-module _ (harts : ℕ) (most : harts ≤ 16) where
+module _ (harts : ℕ) (most : harts ≤ most_harts) where
   hart_passes : (h : ℕ) → h < harts → tells (decimal_below harts) (decimal h) ≡ true
   hart_passes h below = passes (spellings.hart_spells harts (omega arith)) h below
 

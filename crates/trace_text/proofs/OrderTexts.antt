@@ -8,6 +8,7 @@ use Rattle.std.specs.Str.Parse.{digits_value}
 use Rattle.std.proofs.lemmas.Bool.{ne_eqb, eq-eqb, lt-ltb, le-ltb, cases_eq, not_from_false, false≢true}
 use Rattle.std.proofs.lemmas.Fmt.{decimal_is_IsNumeral}
 use Rattle.std.proofs.lemmas.List.{length-append, length-replicate}
+use Rattle.rv_fields.specs.Play.{most_harts}
 use Rattle.trace_text.specs.Text.{Turns, with_turn, turns_of, turns_fields, turns_text}
 use Rattle.trace_fields.specs.Text.{joined_by, space_byte}
 use Rattle.trace_fields.specs.Numbers.{decimal_below}
@@ -71,10 +72,10 @@ AreTurns harts last steps [] = Unit {0}
 AreTurns harts last steps (t ∷ ts) =
     (t.hart < harts) × Another last t.hart × (1 ≤ t.count) × (steps + t.count ≤ most_steps) × AreTurns harts (Some t.hart) (steps + t.count) ts
 
-small_turns : (harts steps : ℕ) (t : Turns) → harts ≤ 16 → t.hart < harts → steps + t.count ≤ most_steps → Small t
+small_turns : (harts steps : ℕ) (t : Turns) → harts ≤ most_harts → t.hart < harts → steps + t.count ≤ most_steps → Small t
 small_turns harts steps t few below fits = record { hart = omega arith; count = omega arith }
 
-pub passes : (harts : ℕ) (last : Option ℕ) (steps : ℕ) (t : Turns) → harts ≤ 16 → t.hart < harts → Another last t.hart → 1 ≤ t.count
+pub passes : (harts : ℕ) (last : Option ℕ) (steps : ℕ) (t : Turns) → harts ≤ most_harts → t.hart < harts → Another last t.hart → 1 ≤ t.count
     → steps + t.count ≤ most_steps → wrong_in order_form (turns harts last steps) (fields_of (turns_line t)) ≡ None
 passes harts last steps t few below other some fits =
     let small = small_turns harts steps t few below fits in
@@ -82,7 +83,7 @@ passes harts last steps t few below other some fits =
     ∙ both_pass (is_another_hart harts last (decimal t.hart)) (is_decimal 1 (most_steps - steps + 1) (decimal t.count))
     (another_passes harts last t.hart below small.hart other) (count_passes (most_steps - steps + 1) t.count some (omega arith) small.count)
 
-pub no_fault : (harts : ℕ) (last : Option ℕ) (steps line : ℕ) (ts : List Turns) → harts ≤ 16 → 1 < line → AreTurns harts last steps ts
+pub no_fault : (harts : ℕ) (last : Option ℕ) (steps line : ℕ) (ts : List Turns) → harts ≤ most_harts → 1 < line → AreTurns harts last steps ts
     → fault_from order_form (turns harts last steps) line (lines_of_text (flat_map turns_text ts)) ≡ None
 no_fault harts last steps line [] few behind are = ap (λ b. cond b None (Some (record { line = line; field = wrong_at_end order_form (turns harts last steps) (fields_of []) }))) (lt-ltb 1 line behind)
 no_fault harts last steps line (t ∷ ts) few behind are =
@@ -103,7 +104,7 @@ no_fault harts last steps line (t ∷ ts) few behind are =
 abbrev pub steps_in : Turns → List ℕ
 steps_in t = replicate t.count t.hart
 
-pub told_steps : (harts : ℕ) (last : Option ℕ) (steps : ℕ) (ts : List Turns) → harts ≤ 16 → AreTurns harts last steps ts
+pub told_steps : (harts : ℕ) (last : Option ℕ) (steps : ℕ) (ts : List Turns) → harts ≤ most_harts → AreTurns harts last steps ts
     → flat_map steps_of (lines_of_text (flat_map turns_text ts)) ≡ flat_map steps_in ts
 told_steps harts last steps [] few are = refl
 told_steps harts last steps (t ∷ ts) few are =

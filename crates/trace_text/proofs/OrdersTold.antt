@@ -2,6 +2,7 @@
 use Rattle.std.proofs.Common.{◌≡◌, ℕ, ◌+◌, ◌≤◌, List, [], ◌∷◌, ◌++◌, length, replicate, refl, sym, ap, ◌∙◌, arith, None, get_or, drop, Result, Ok, Err}
 use Rattle.std.specs.Prelude.{MatchResult, codes}
 use Rattle.std.proofs.lemmas.Option.{none-some}
+use Rattle.rv_fields.specs.Play.{most_harts}
 use Rattle.trace_fields.specs.declared.fault.LineFault.{LineFault}
 use Rattle.trace_fields.specs.declared.fault.LineFault.TheVariants.{At, Memory}
 use Rattle.trace_fields.specs.Taking.{IsFault}
@@ -10,10 +11,10 @@ use Rattle.std.proofs.lemmas.List.{length-append, length-replicate}
 use Rattle.trace_text.specs.Forms.{lines_of_text, fault_from, first_fault}
 use Rattle.trace_fields.specs.Fields.{fields_of}
 use Rattle.trace_text.specs.Orders.{IsOrder, order_form, nothing, turns, steps_of, order_fault, order_told, harts_told, number_in}
-use Rattle.trace_text.specs.Text.{order_text, turns_of, turns_text}
+use Rattle.trace_text.specs.Text.{order_text, turns_of, turns_text, header_body}
 use Rattle.trace_text.proofs.Faults.{step}
 use Rattle.trace_fields.proofs.WordBytes.{IsVisible}
-use Rattle.trace_text.proofs.VisibleLines.{header_body, header_number, header_right, header_cut}
+use Rattle.trace_text.proofs.VisibleLines.{header_number, header_right, header_cut}
 use Rattle.trace_text.proofs.OrderTexts.{turns_are, no_fault, told_steps, steps_of_turns}
 
 -- so many steps as are counted
@@ -31,7 +32,7 @@ told harts order is =
     let rest = flat_map turns_text ts in
     let text = order_text harts order in
     let header = header_body (codes "order") harts in
-    let few : harts ≤ 16 = is.most in
+    let few : harts ≤ most_harts = is.most in
     let cut : lines_of_text text ≡ header ∷ lines_of_text rest = header_cut (codes "order") order_visible harts few rest in
     let number : number_in (fields_of header) 2 ≡ harts = header_number (codes "order") order_visible harts few in
     let are = turns_are harts order is.named is.short in

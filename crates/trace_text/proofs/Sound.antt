@@ -4,14 +4,14 @@ use Rattle.std.specs.List.{AllByRecursion, flat_map}
 use Rattle.std.proofs.lemmas.Bool.{lt-ltb}
 use Rattle.rv_fields.specs.Play.{most_harts}
 use Rattle.trace_text.specs.Lines.{Line}
-use Rattle.trace_text.specs.Text.{line_body, line_text, trace_text}
+use Rattle.trace_text.specs.Text.{line_body, line_text, trace_text, header_body}
 use Rattle.trace_text.specs.Forms.{lines_of_text, first_fault, fault_from, wrong_in, wrong_at_end}
 use Rattle.trace_fields.specs.Fields.{fields_of}
 use Rattle.trace_text.specs.Orders.{number_in}
 use Rattle.trace_text.specs.Traces.{IsLine, IsTrace, trace_form, trace_fault}
 use Rattle.trace_text.proofs.Faults.{step}
 use Rattle.trace_fields.proofs.WordBytes.{IsVisible}
-use Rattle.trace_text.proofs.VisibleLines.{cut_line, header_body, header_number, header_right, header_cut}
+use Rattle.trace_text.proofs.VisibleLines.{cut_line, header_number, header_right, header_cut}
 use Rattle.trace_text.proofs.LineTexts.{fields_again, body_lacks_newline, fields_right}
 
 trace_visible : IsVisible (codes "trace")

@@ -6,6 +6,7 @@ use Rattle.std.specs.List.{join_with_byte, onto_first}
 use Rattle.std.proofs.lemmas.Bool.{ne_eqb}
 use Rattle.std.proofs.lemmas.List.Splits.{join_with_byte-slice_split}
 use Rattle.std.proofs.lemmas.Option.{none-some}
+use Rattle.rv_fields.specs.Play.{most_harts}
 use Rattle.trace_fields.specs.declared.fault.LineFault.{LineFault}
 use Rattle.trace_fields.specs.declared.fault.LineFault.TheVariants.{At, Memory}
 use Rattle.trace_text.specs.declared.line.Line as code
@@ -42,12 +43,12 @@ pub fields_text : (text : List ℕ) (fields : List (List ℕ)) → fields_of tex
 fields_text text fields are = sym (join_with_byte-slice_split 0x20 text) ∙ ap (join_with_byte 0x20) are
 
 -- a line that is read has no wrong field
-pub right_line : (harts : ℕ) → harts ≤ 16 → (l : Line) (fields : List (List ℕ)) → fields ≡ line_fields l → IsLine harts l
+pub right_line : (harts : ℕ) → harts ≤ most_harts → (l : Line) (fields : List (List ℕ)) → fields ≡ line_fields l → IsLine harts l
     → wrong_in trace_form (Some harts) fields ≡ None
 right_line harts few l fields are is = ap (wrong_in trace_form (Some harts)) are ∙ fields_right harts few l is
 
 -- The fault of a line that no newline ends.
-pub open_line : (harts number : ℕ) (text : List ℕ) (read : Result code.Line LineFault) (fault : LineFault) → harts ≤ 16
+pub open_line : (harts number : ℕ) (text : List ℕ) (read : Result code.Line LineFault) (fault : LineFault) → harts ≤ most_harts
     → MatchResult read (λ l. (fields_of text ≡ line_fields (line_seen l)) × IsLine harts (line_seen l))
     (λ f. IsWrongBy (trace_tests (Some harts) (fields_of text)) (whole_line number (fields_of text)) f)
     → MatchResult read (λ l. fault ≡ At number (length (line_fields (line_seen l)) + 1)) (λ f. fault ≡ f)

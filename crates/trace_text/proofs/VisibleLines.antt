@@ -9,7 +9,7 @@ use Rattle.std.proofs.lemmas.List.Elements.{All-from_recursion}
 use Rattle.std.proofs.lemmas.List.Splits.{slice_split_at}
 use Rattle.rv_fields.specs.Play.{most_harts}
 use Rattle.trace_fields.specs.Text.{space_byte, joined_by}
-use Rattle.trace_text.specs.Text.{newline, header_fields, header_text}
+use Rattle.trace_text.specs.Text.{newline, header_fields, header_text, header_body}
 use Rattle.trace_fields.specs.Numbers.{decimal_below}
 use Rattle.trace_text.specs.Forms.{lines_of_text}
 use Rattle.trace_fields.specs.Fields.{fields_of, first_wrong, is_decimal}
@@ -38,10 +38,6 @@ pub cut_line : (body rest : List ℕ) → Lacks 0x0a body → lines_of_text ((bo
 cut_line body rest lack =
     ap lines_of_text (append_assoc body newline rest)
     ∙ slice_split_at (λ b. b == 0x0a) body 0x0a rest (All-from_recursion (λ b. (b == 0x0a) ≡ false) body lack) refl
-
--- the first line without its newline
-abbrev pub header_body : List ℕ → ℕ → List ℕ
-header_body kind harts = joined_by space_byte (header_fields kind harts)
 
 module _ (kind : List ℕ) (visible : IsVisible kind) (harts : ℕ) (most : harts ≤ most_harts) where
   header_visible : AllByRecursion IsVisible (header_fields kind harts)

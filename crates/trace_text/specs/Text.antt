@@ -34,16 +34,23 @@ line_fields (refused hart k cause preamble) = codes "r" ∷ decimal hart ∷ dec
 abbrev pub line_body : Line → List ℕ
 line_body line = joined_by space_byte (line_fields line)
 
--- a line with its newline
+-- a line of these fields with its newline
+abbrev pub ended_line : List (List ℕ) → List ℕ
+ended_line fields = joined_by space_byte fields ++ newline
+
 abbrev pub line_text : Line → List ℕ
-line_text line = line_body line ++ newline
+line_text line = ended_line (line_fields line)
 
 -- the fields of the first line: what the text is, its version, and the number of harts
 abbrev pub header_fields : List ℕ → ℕ → List (List ℕ)
 header_fields kind harts = kind ∷ codes "1" ∷ decimal harts ∷ []
 
+-- the first line up to its newline
+abbrev pub header_body : List ℕ → ℕ → List ℕ
+header_body kind harts = joined_by space_byte (header_fields kind harts)
+
 abbrev pub header_text : List ℕ → ℕ → List ℕ
-header_text kind harts = joined_by space_byte (header_fields kind harts) ++ newline
+header_text kind harts = ended_line (header_fields kind harts)
 
 -- the trace of so many harts
 abbrev pub trace_text : ℕ → List Line → List ℕ
@@ -70,7 +77,7 @@ abbrev pub turns_fields : Turns → List (List ℕ)
 turns_fields t = decimal t.hart ∷ decimal t.count ∷ []
 
 abbrev pub turns_text : Turns → List ℕ
-turns_text t = joined_by space_byte (turns_fields t) ++ newline
+turns_text t = ended_line (turns_fields t)
 
 -- the order in which so many harts step
 abbrev pub order_text : ℕ → List ℕ → List ℕ
