@@ -9,6 +9,13 @@ count_bound = 2 ^ 32
 abbrev pub hex_bound : ℕ
 hex_bound = 2 ^ 64
 
+-- an instruction word and a byte are below these
+abbrev pub word_bound : ℕ
+word_bound = 2 ^ 32
+
+abbrev pub byte_bound : ℕ
+byte_bound = 2 ^ 8
+
 -- registers, address spaces and the causes of traps are numbered below these
 abbrev pub register_bound : ℕ
 register_bound = 32

@@ -1,12 +1,12 @@
 -- The ranges that the fields of a trace keep.
-use Rattle.std.specs.Prelude.{ℕ, ◌≢◌, ◌^◌, ◌<◌, ◌≤◌, List, length, IsTrue, IfSome}
+use Rattle.std.specs.Prelude.{ℕ, ◌≢◌, ◌<◌, ◌≤◌, List, length, IsTrue, IfSome}
 use Rattle.std.specs.List.{AllByRecursion}
 use Rattle.rv_fields.specs.Name.{Name, is_name}
 use Rattle.rv_fields.specs.declared.mode.Mode.TheVariants.{U}
 use Rattle.rv_fields.specs.declared.access.Accessed.{Accessed}
 use Rattle.rv_fields.specs.declared.trap.Trap.{Trap}
 use Rattle.rv_fields.specs.Effect.{Entry}
-use Rattle.trace_fields.specs.Bounds.{hex_bound, register_bound, trap_bound, most_labels, most_bytes, sized_bound}
+use Rattle.trace_fields.specs.Bounds.{hex_bound, register_bound, trap_bound, most_labels, most_bytes, sized_bound, byte_bound}
 use Rattle.trace_fields.specs.Readings.{is_any_of, sizes}
 
 abbrev pub IsAnyOf : List ℕ → ℕ → Type 0
@@ -46,4 +46,4 @@ pub record IsPath (path : List Name) : Type 0 where
 pub record AreBytes (bytes : List ℕ) : Type 0 where
   pub some : 1 ≤ length bytes
   pub short : length bytes ≤ most_bytes
-  pub small : AllByRecursion (λ b. b < 2 ^ 8) bytes
+  pub small : AllByRecursion (λ b. b < byte_bound) bytes

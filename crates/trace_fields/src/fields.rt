@@ -1,5 +1,5 @@
 //! The fields of a line, taken one after another.
-ghost use Rattle.std.specs.Prelude.{◌≡◌, ◌≢◌, ◌+◌, ◌<◌, ◌≤◌, ◌^◌, [], List, ℕ, MatchResult, IfSome, length};
+ghost use Rattle.std.specs.Prelude.{◌≡◌, ◌≢◌, ◌+◌, ◌<◌, ◌≤◌, [], List, ℕ, MatchResult, IfSome, length};
 ghost use Rattle.std.specs.List.{flat_map, AllByRecursion};
 ghost use Rattle.std.specs.Fmt.{decimal};
 ghost use Rattle.std.specs.Str.Parse.{digits_value};
@@ -8,7 +8,7 @@ ghost use Rattle.trace_fields.specs.Fields.{Test, fields_of, is_word, is_decimal
 ghost use Rattle.trace_fields.specs.Numbers.{decimal_below, word_of};
 ghost use Rattle.trace_fields.specs.Readings.{hex_of, count_of, kind_of, cause_of, number_of, preambles, name_of, register_of, space_of, path_of, bytes_of, optional, write_of, access_of, trail_of, trap_of};
 ghost use Rattle.trace_fields.specs.Ranges.{IsAnyOf, IsName, IsPath, AreBytes, IsWrite, IsAccess, IsEntry, IsTrap};
-ghost use Rattle.trace_fields.specs.Bounds.{count_bound, hex_bound, register_bound, space_bound, most_entries, most_fields};
+ghost use Rattle.trace_fields.specs.Bounds.{count_bound, hex_bound, word_bound, register_bound, space_bound, most_entries, most_fields};
 ghost use Rattle.trace_fields.specs.Taking.{left, whole_line, IsWrongBy, Took, Passed, Takes, Lacks};
 
 use crate::access::AccessText;
@@ -106,7 +106,7 @@ impl<'a> Fields<'a> {
     /// A word.
     pub fn word(&mut self) -> Result<u32, LineFault>
         requires { (left self.old).number < most_fields }
-        ensures { Takes word_of word_text (λ w. w < 2 ^ 32) (λ v. v) self.old self.new result }
+        ensures { Takes word_of word_text (λ w. w < word_bound) (λ v. v) self.old self.new result }
     {
         let fault = self.fault();
         numbers::word_of(self.next()?).ok_or(fault)

@@ -1,10 +1,10 @@
 -- The form of a trace, and the traces that it spells.
-use Rattle.std.specs.Prelude.{ℕ, ◌^◌, ◌<◌, ◌≤◌, false, List, [], ◌∷◌, length, codes, get_or, Option, Some, None, IfSome, MatchOption, if◌then◌else◌}
+use Rattle.std.specs.Prelude.{ℕ, ◌<◌, ◌≤◌, false, List, [], ◌∷◌, length, codes, get_or, Option, Some, None, IfSome, MatchOption, if◌then◌else◌}
 use Rattle.std.specs.List.{AllByRecursion}
 use Rattle.std.specs.Str.{bytes_eq}
 use Rattle.rv_fields.specs.Effect.{Effect}
 use Rattle.rv_fields.specs.Play.{most_harts}
-use Rattle.trace_fields.specs.Bounds.{count_bound, hex_bound, register_bound, space_bound, most_entries}
+use Rattle.trace_fields.specs.Bounds.{count_bound, hex_bound, register_bound, space_bound, most_entries, word_bound}
 use Rattle.trace_text.specs.Lines.{Line, hart_of, request, picked, weighed, fixed, given, settled, touched, made, found, ending, done, refused}
 use Rattle.trace_fields.specs.Numbers.{decimal_below, word_of}
 use Rattle.trace_fields.specs.Fields.{Test, Place, is_word, tells}
@@ -19,7 +19,7 @@ use Rattle.trace_fields.specs.Ranges.{IsAnyOf, IsName, IsWrite, IsAccess, IsEntr
 pub record IsStep (e : Effect) : Type 0 where
   pub pc : e.pc < hex_bound
   pub pa : MatchOption e.pa ⊥ (λ pa. pa < hex_bound)
-  pub word : MatchOption e.word ⊥ (λ word. word < 2 ^ 32)
+  pub word : MatchOption e.word ⊥ (λ word. word < word_bound)
   pub rd : IfSome e.rd IsWrite
   pub access : IfSome e.access IsAccess
   pub short : length e.trail ≤ most_entries
