@@ -9,7 +9,7 @@ use Rattle.rv_fields.specs.Hart.{Hart}
 use Rattle.rv_fields.specs.Memory.{Seen}
 use Rattle.rv_fields.specs.Play.{IsReset, Machine, Plays, after_step, most_harts}
 use Rattle.boot_words.specs.Boot.{mret, spelled}
-use Rattle.boot_words.specs.Booting.{AreLoadable, HoldsBoot, IsBootedBy, Loads, Runs, boot_steps, booting_words}
+use Rattle.boot_words.specs.Booting.{AreLoadable, Executes, HoldsBoot, IsBootedBy, Loads, boot_steps, booting_words}
 use Rattle.boot_words.specs.Passing.{BeginsWithBoot, PlaysAsTold, behind_boots, boots_from, effects_by}
 use Rattle.boot_words.proofs.Booted.{boots}
 
@@ -31,14 +31,14 @@ record Played (m : Machine) (h : ℕ) (words : List ℕ) (end : Hart) : Type 0 w
   hart : to.harts h ≡ end
   others : (k : ℕ) → k ≢ h → to.harts k ≡ m.harts k
 
-played : (words : List ℕ) (m : Machine) (h : ℕ) (end : Hart) → Runs m.seen h (m.harts h) words end → Played m h words end
+played : (words : List ℕ) (m : Machine) (h : ℕ) (end : Hart) → Executes m.seen h (m.harts h) words end → Played m h words end
 played [] m h end runs = record { effects = []; to = m; plays = refl; are = tt; seen = refl; hart = sym runs; others = λ k apart. refl }
 played (word ∷ words) m h end runs =
     let s = runs.0 in
     let next : Machine = after_step m h s in
     let kept : next.seen ≡ m.seen = runs.2.memory in
     let there : next.harts h ≡ s.hart = ap (λ t. cond t s.hart (m.harts h)) (eq-eqb h h refl) in
-    let rest = played words next h end (subst (λ hart. Runs next.seen h hart words end) (sym there) (subst (λ seen. Runs seen h s.hart words end) (sym kept) runs.3)) in
+    let rest = played words next h end (subst (λ hart. Executes next.seen h hart words end) (sym there) (subst (λ seen. Executes seen h s.hart words end) (sym kept) runs.3)) in
     record {
       effects = s.effect ∷ rest.effects;
       to = rest.to;

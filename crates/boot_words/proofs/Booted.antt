@@ -17,7 +17,7 @@ use Rattle.rv_fields.proofs.Legal.{legal_at_reset}
 use Rattle.rv_fields.proofs.Masks.{field_of-with_field}
 use Rattle.rv_fields.proofs.MeaningLaws.{doubleword_result}
 use Rattle.boot_words.specs.Boot.{boot_block, boot_csr_list, dispatcher, instruction, mret, spelled}
-use Rattle.boot_words.specs.Booting.{AreLoadable, BootsAlways, HoldsBoot, HoldsEach, Loads, Runs, dispatcher_steps}
+use Rattle.boot_words.specs.Booting.{AreLoadable, BootsAlways, Executes, HoldsBoot, HoldsEach, Loads, dispatcher_steps}
 use Rattle.boot_words.specs.Layout.{boot_block_at, dispatcher_at}
 use Rattle.boot_words.specs.Startup.{loaded_csrs}
 use Rattle.boot_words.proofs.Cleared.{all_overwritten, all_suit}
@@ -48,7 +48,7 @@ behind_first = csr_words 0 boot_csr_list ++ (register_words 1 31 ++ (spelled mre
 -- where the block leads a hart
 pub record Leads (seen : Seen) (h : ℕ) (loads : Loads) (file : CsrFile) (hart : Hart) : Type 0 where
   pub last : Hart
-  pub runs : Runs seen h hart boot_block (left last)
+  pub runs : Executes seen h hart boot_block (left last)
   pub at : At h (boot_block_at h + 248) (written_each file boot_csr_list (map loads.csrs boot_csr_list)) last
   pub has : (q : ℕ) → 1 ≤ q → q < 32 → last.x q ≡ Some (loads.x q)
 
@@ -74,10 +74,10 @@ through harts h loads seen file hart few ok holds bare at =
     let last = registers.end in
     let place : block + 4 + 120 + 124 ≡ block + 248 = omega arith in
     let goes = leaves seen h (block + 4 + 120 + 124) _ last registers.at (record { word = rest.1.0; fits = refl }) in
-    let ending : Runs seen h last (spelled mret ∷ []) (left last) = then_runs seen h (spelled mret) [] last (left last) (left last) goes refl in
-    let loaded : Runs seen h csrs.end (register_words 1 31 ++ (spelled mret ∷ [])) (left last) =
+    let ending : Executes seen h last (spelled mret ∷ []) (left last) = then_runs seen h (spelled mret) [] last (left last) (left last) goes refl in
+    let loaded : Executes seen h csrs.end (register_words 1 31 ++ (spelled mret ∷ [])) (left last) =
     runs_on seen h (register_words 1 31) (spelled mret ∷ []) csrs.end last (left last) registers.runs ending in
-    let behind : Runs seen h h1 behind_first (left last) = runs_on seen h (csr_words 0 boot_csr_list) (register_words 1 31 ++ (spelled mret ∷ [])) h1 csrs.end (left last) csrs.runs loaded in
+    let behind : Executes seen h h1 behind_first (left last) = runs_on seen h (csr_words 0 boot_csr_list) (register_words 1 31 ++ (spelled mret ∷ [])) h1 csrs.end (left last) csrs.runs loaded in
     record {
       last = last;
       runs = then_runs seen h (spelled own_address) behind_first hart h1 (left last) first behind;

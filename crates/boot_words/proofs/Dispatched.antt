@@ -18,7 +18,7 @@ use Rattle.rv_fields.specs.Play.{most_harts}
 use Rattle.rv_fields.proofs.MeaningLaws.{addi_adds, doubleword_result}
 use Rattle.rv_encode.specs.Fitting.{misfit}
 use Rattle.boot_words.specs.Boot.{dispatcher, instruction, read_csr, spelled}
-use Rattle.boot_words.specs.Booting.{HoldsEach, Runs, dispatcher_steps}
+use Rattle.boot_words.specs.Booting.{Executes, HoldsEach, dispatcher_steps}
 use Rattle.boot_words.specs.Layout.{boot_block_at, dispatcher_at}
 use Rattle.boot_words.proofs.Running.{At, Stands, Takes, computes, retires_to, then_runs, wrote, wrote_at}
 
@@ -120,7 +120,7 @@ computes_to seen h word r v w hart takes is = record { s = takes.s; steps = take
 
 pub dispatched : (harts h : ℕ) (seen : Seen) (csrs : CsrFile) (hart : Hart) → h < harts → harts ≤ most_harts → csrs.mhartid ≡ h
     → HoldsEach seen.byte 4 dispatcher_at (dispatcher harts) → At h dispatcher_at csrs hart
-    → (end : Hart) × Runs seen h hart (take dispatcher_steps (dispatcher harts)) end × At h (boot_block_at h) csrs end
+    → (end : Hart) × Executes seen h hart (take dispatcher_steps (dispatcher harts)) end × At h (boot_block_at h) csrs end
 dispatched harts h seen csrs hart member few number holds at0 =
     let few_harts : harts < 2048 = omega arith in
     let few_h : h < most_harts = omega arith in
@@ -151,12 +151,12 @@ dispatched harts h seen csrs hart member few number holds at0 =
     let step7 = jumps seen h 0x80000018 (boot_block_at h) csrs h6 at6 (record { word = holds.1.1.1.1.1.1.0; fits = refl }) (ap Some to) (omega arith) (omega (arith, few_h)) in
     let h7 = moved h6 (boot_block_at h) in
     let at7 = moved_at h 0x80000018 (boot_block_at h) (boot_block_at h) csrs h6 refl at6 in
-    let run6 : Runs seen h h6 (drop 6 words) h7 = then_runs seen h _ [] h6 h7 h7 step7 refl in
-    let run5 : Runs seen h h5 (drop 5 words) h7 = then_runs seen h _ (drop 6 words) h5 h6 h7 step6 run6 in
-    let run4 : Runs seen h h4 (drop 4 words) h7 = then_runs seen h _ (drop 5 words) h4 h5 h7 step5 run5 in
-    let run3 : Runs seen h h3 (drop 3 words) h7 = then_runs seen h _ (drop 4 words) h3 h4 h7 step4 run4 in
-    let run2 : Runs seen h h2 (drop 2 words) h7 = then_runs seen h _ (drop 3 words) h2 h3 h7 step3 run3 in
-    let run1 : Runs seen h h1 (drop 1 words) h7 = then_runs seen h _ (drop 2 words) h1 h2 h7 step2 run2 in
+    let run6 : Executes seen h h6 (drop 6 words) h7 = then_runs seen h _ [] h6 h7 h7 step7 refl in
+    let run5 : Executes seen h h5 (drop 5 words) h7 = then_runs seen h _ (drop 6 words) h5 h6 h7 step6 run6 in
+    let run4 : Executes seen h h4 (drop 4 words) h7 = then_runs seen h _ (drop 5 words) h4 h5 h7 step5 run5 in
+    let run3 : Executes seen h h3 (drop 3 words) h7 = then_runs seen h _ (drop 4 words) h3 h4 h7 step4 run4 in
+    let run2 : Executes seen h h2 (drop 2 words) h7 = then_runs seen h _ (drop 3 words) h2 h3 h7 step3 run3 in
+    let run1 : Executes seen h h1 (drop 1 words) h7 = then_runs seen h _ (drop 2 words) h1 h2 h7 step2 run2 in
     (h7, then_runs seen h _ (drop 1 words) hart h1 h7 step1 run1, at7)
   where
     words : List ℕ

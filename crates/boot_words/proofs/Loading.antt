@@ -14,7 +14,7 @@ use Rattle.rv_fields.specs.Memory.{Seen, told}
 use Rattle.rv_fields.specs.Status.{mprv}
 use Rattle.rv_encode.specs.Fitting.{misfit}
 use Rattle.boot_words.specs.Boot.{csr_code, register_code, spelled, swap_csr, table_load}
-use Rattle.boot_words.specs.Booting.{HoldsEach, Runs}
+use Rattle.boot_words.specs.Booting.{Executes, HoldsEach}
 use Rattle.boot_words.specs.Layout.{csrs_offset, registers_offset}
 use Rattle.boot_words.proofs.Running.{At, loads, swaps, then_runs, wrote, wrote_at, wrote_csr, wrote_csr_at}
 
@@ -65,7 +65,7 @@ csr_words k csrs = map spelled (flat_map csr_code (enumerate_from k csrs))
 -- Behind the loads of CSRs from a place on, the hart has them, and x31 has the block's address.
 pub record HasCsrs (seen : Seen) (h pc base : ℕ) (file : CsrFile) (hart : Hart) (words : List ℕ) : Type 0 where
   pub end : Hart
-  pub runs : Runs seen h hart words end
+  pub runs : Executes seen h hart words end
   pub at : At h pc file end
   pub based : end.x 31 ≡ Some base
   pub bare : field_of mprv file.mstatus ≡ 0
@@ -115,7 +115,7 @@ register_words r count = map spelled (map register_code (range_with_len r count)
 -- Behind the loads of so many registers from one on, the hart has them, and those below as before.
 pub record HasRegisters (seen : Seen) (h pc : ℕ) (file : CsrFile) (hart : Hart) (words : List ℕ) (x : ℕ → ℕ) (r count : ℕ) : Type 0 where
   pub end : Hart
-  pub runs : Runs seen h hart words end
+  pub runs : Executes seen h hart words end
   pub at : At h pc file end
   pub has : (q : ℕ) → r ≤ q → q < r + count → end.x q ≡ Some (x q)
   pub keeps : (q : ℕ) → q < r → end.x q ≡ hart.x q

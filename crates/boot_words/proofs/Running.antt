@@ -30,7 +30,7 @@ use Rattle.rv_fields.proofs.MeaningLaws.{doubleword_extended}
 use Rattle.rv_encode.specs.Fitting.{misfit}
 use Rattle.rv_encode.proofs.Encoded.{encoded_decodes}
 use Rattle.boot_words.specs.Boot.{mret, spelled, swap_csr, table_load}
-use Rattle.boot_words.specs.Booting.{IsQuiet, Runs}
+use Rattle.boot_words.specs.Booting.{Executes, IsQuiet}
 
 -- ---- where a hart stands
 
@@ -250,12 +250,12 @@ leaves seen h pc csrs hart at stands =
 
 -- ---- runs
 
-pub then_runs : (seen : Seen) (h word : ℕ) (words : List ℕ) (hart next end : Hart) → Takes seen h hart word next → Runs seen h next words end
-    → Runs seen h hart (word ∷ words) end
-then_runs seen h word words hart next end takes runs = (takes.s, takes.steps, takes.quiet, subst (λ q. Runs seen h q words end) (sym takes.leads) runs)
+pub then_runs : (seen : Seen) (h word : ℕ) (words : List ℕ) (hart next end : Hart) → Takes seen h hart word next → Executes seen h next words end
+    → Executes seen h hart (word ∷ words) end
+then_runs seen h word words hart next end takes runs = (takes.s, takes.steps, takes.quiet, subst (λ q. Executes seen h q words end) (sym takes.leads) runs)
 
-pub runs_on : (seen : Seen) (h : ℕ) (words others : List ℕ) (hart middle end : Hart) → Runs seen h hart words middle → Runs seen h middle others end
-    → Runs seen h hart (words ++ others) end
-runs_on seen h [] others hart middle end first second = subst (λ q. Runs seen h q others end) first second
+pub runs_on : (seen : Seen) (h : ℕ) (words others : List ℕ) (hart middle end : Hart) → Executes seen h hart words middle → Executes seen h middle others end
+    → Executes seen h hart (words ++ others) end
+runs_on seen h [] others hart middle end first second = subst (λ q. Executes seen h q others end) first second
 runs_on seen h (word ∷ words) others hart middle end first second =
     (first.0, first.1, first.2, runs_on seen h words others first.0.hart middle end first.3 second)

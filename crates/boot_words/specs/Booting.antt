@@ -53,10 +53,10 @@ pub record IsQuiet (seen : Seen) (h word : ℕ) (effect : Effect) : Type 0 where
   pub memory : after_access h effect.access seen ≡ seen
 
 -- the hart's next steps execute these words, one after another, and lead to the end
-abbrev pub Runs : Seen → ℕ → Hart → List ℕ → Hart → Type 0
-Runs seen h hart [] end = end ≡ hart
-Runs seen h hart (word ∷ words) end =
-    (s : Stepped) × (step seen hart ≡ Some s) × IsQuiet seen h word s.effect × Runs seen h s.hart words end
+abbrev pub Executes : Seen → ℕ → Hart → List ℕ → Hart → Type 0
+Executes seen h hart [] end = end ≡ hart
+Executes seen h hart (word ∷ words) end =
+    (s : Stepped) × (step seen hart ≡ Some s) × IsQuiet seen h word s.effect × Executes seen h s.hart words end
 
 -- the steps of a boot in the dispatcher: one for each instruction but the last, at which a hart waits
 abbrev pub dispatcher_steps : ℕ
@@ -85,4 +85,4 @@ pub record IsBootedBy (h : ℕ) (loads : Loads) (hart : Hart) : Type 0 where
 -- From every reset of a hart, over any memory that holds its boot, it boots.
 abbrev pub BootsAlways : Type 0
 BootsAlways = (harts h : ℕ) (loads : Loads) (seen : Seen) (hart : Hart) → h < harts → harts ≤ most_harts → AreLoadable loads
-    → HoldsBoot harts h loads seen.byte → IsReset h hart → (end : Hart) × Runs seen h hart (booting_words harts) end × IsBootedBy h loads end
+    → HoldsBoot harts h loads seen.byte → IsReset h hart → (end : Hart) × Executes seen h hart (booting_words harts) end × IsBootedBy h loads end

@@ -2,7 +2,7 @@ ghost use Rattle.std.specs.Prelude.{◌≡◌, ◌<◌, ◌*◌, ◌^◌, length
 ghost use Rattle.rv_fields.specs.Status.{mode_number};
 ghost use Rattle.region_plan.specs.Plan.{no_hart};
 ghost use Rattle.region_plan.specs.Request.{no_items};
-ghost use Rattle.region_plan.specs.Views.{hart_seen, plan_at};
+ghost use Rattle.region_plan.specs.Views.{plan_at, planned_hart};
 ghost use Rattle.boot_words.specs.Boot.{boot_csrs, boot_registers};
 ghost use Rattle.boot_words.specs.Booting.{BootsAlways};
 ghost use Rattle.boot_words.specs.Layout.{window_by};
@@ -50,7 +50,7 @@ pub fn boot_values(plan: &Plan, hart: u8, values: &ValueFile) -> BootValues
 
 /// The values of a hart's CSRs.
 fn csrs(plan: &HartPlan, hart: u8) -> [u64; 15]
-    ensures { result ≡ boot_csrs (hart_seen plan.now no_items) hart }
+    ensures { result ≡ boot_csrs (planned_hart plan.now no_items) hart }
 {
     [
         boot_mstatus(plan.mode),

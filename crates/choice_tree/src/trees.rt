@@ -1,7 +1,7 @@
 ghost use Rattle.std.specs.Prelude.{◌≡◌, [], option_map};
 ghost use Rattle.serde_json.specs.View.{view};
 ghost use Rattle.choice_tree.specs.Forest.{forest_of, forest_in};
-ghost use Rattle.json_keys.specs.Input.{Reads};
+ghost use Rattle.json_keys.specs.Input.{ReadsAs};
 
 use json_keys::{InputFault, document, natural_at, object_of, value_at};
 use serde_json::Value;
@@ -14,7 +14,7 @@ pub struct Trees;
 impl Trees {
     /// Reads the trees that a JSON file spells.
     pub fn read(alloc: Global, bytes: &[u8]) -> Result<Trees, InputFault>
-        ensures { Reads (λ _. []) result (forest_in bytes.now) }
+        ensures { ReadsAs (λ _. []) result (forest_in bytes.now) }
     {
         let value = document(alloc, bytes)?;
         forest_of(&value).ok_or(InputFault::NotBuilt)

@@ -5,10 +5,10 @@ use Rattle.std.proofs.lemmas.Bool.{eqb-true, cases_Bool}
 use Rattle.std.proofs.lemmas.List.{length-append, length-replicate, get_or_append_left, get_or-append-add}
 use Rattle.ram_image.specs.Segments.{Stretch}
 use Rattle.elf_file.specs.Placing.{laid_from}
-use Rattle.elf_file.specs.Writing.{Placed, placed_at, placed, page_from}
+use Rattle.elf_file.specs.Writing.{PlacedSegment, placed_segment, placed, page_from}
 
 -- the file has the segment's bytes where they are placed
-pub record Has (file : List ℕ) (p : Placed) : Type 0 where
+pub record Has (file : List ℕ) (p : PlacedSegment) : Type 0 where
   pub there : (length p.bytes ≡ 0) ⊎ (p.offset + length p.bytes ≤ length file)
   pub bytes : (i : ℕ) → i < length p.bytes → get_or file (p.offset + i) 0 ≡ get_or p.bytes i 0
 
@@ -18,10 +18,10 @@ le-page_from end = omega arith
 pub page_from-lt : (end : ℕ) → page_from end < end + 4096
 page_from-lt end = omega arith
 
-has_none : (file : List ℕ) (p : Placed) → length p.bytes ≡ 0 → Has file p
+has_none : (file : List ℕ) (p : PlacedSegment) → length p.bytes ≡ 0 → Has file p
 has_none file p none = record { there = inl none; bytes = λ i lt. absurd (omega arith) }
 
-has_some : (front rest : List ℕ) (p : Placed) → length front ≡ p.offset → Has (front ++ (p.bytes ++ rest)) p
+has_some : (front rest : List ℕ) (p : PlacedSegment) → length front ≡ p.offset → Has (front ++ (p.bytes ++ rest)) p
 has_some front rest p is = record {
   there = inr (omega (arith, length-append front (p.bytes ++ rest), length-append p.bytes rest));
   bytes = λ i lt.
@@ -29,10 +29,10 @@ has_some front rest p is = record {
       ∙ get_or-append-add front (p.bytes ++ rest) i 0 ∙ get_or_append_left p.bytes rest 0 i lt;
 }
 
-pub laid_from-none : (from : ℕ) (p : Placed) (ps : List Placed) → eqb (length p.bytes) 0 ≡ true → laid_from from (p ∷ ps) ≡ laid_from from ps
+pub laid_from-none : (from : ℕ) (p : PlacedSegment) (ps : List PlacedSegment) → eqb (length p.bytes) 0 ≡ true → laid_from from (p ∷ ps) ≡ laid_from from ps
 laid_from-none from p ps e = rw e refl
 
-pub laid_from-some : (from : ℕ) (p : Placed) (ps : List Placed) → eqb (length p.bytes) 0 ≡ false
+pub laid_from-some : (from : ℕ) (p : PlacedSegment) (ps : List PlacedSegment) → eqb (length p.bytes) 0 ≡ false
     → laid_from from (p ∷ ps) ≡ replicate (p.offset - from) 0 ++ (p.bytes ++ laid_from (p.offset + length p.bytes) ps)
 laid_from-some from p ps e = rw e refl
 
@@ -41,7 +41,7 @@ pub has_placed : (ss : List Stretch) (front : List ℕ) (from end : ℕ) (file :
     → length front ≡ from → from ≤ end → file ≡ front ++ laid_from from (placed end ss) → AllByRecursion (Has file) (placed end ss)
 has_placed [] front from end file at le is = tt
 has_placed (s ∷ ss) front from end file at le is =
-    let p : Placed = placed_at (page_from end) s in
+    let p : PlacedSegment = placed_segment (page_from end) s in
     let behind : ℕ = p.offset + length p.bytes in
     elim (cases_Bool (eqb (length p.bytes) 0)) [
       | inl e ↦ (

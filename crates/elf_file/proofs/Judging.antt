@@ -13,7 +13,7 @@ use Rattle.elf_file.specs.declared.fault.ElfFault.{ElfFault}
 use Rattle.elf_file.specs.declared.fault.ElfFault.TheVariants.{Short, NotElf, NotThis, OutsideRam, Clash, Memory}
 use Rattle.elf_file.specs.declared.fields.ProgramHeader.{ProgramHeader}
 use Rattle.elf_file.specs.Headers.{loads}
-use Rattle.elf_file.specs.Faults.{Test, first_fault, header_tests, span_of, segment_tests, apart_tests, tests, fault_of}
+use Rattle.elf_file.specs.Faults.{Test, first_failed, header_tests, header_span, segment_tests, apart_tests, tests, file_fault}
 use Rattle.elf_file.specs.Writing.{elf_of}
 use Rattle.elf_file.specs.Loading.{is_loadable, segment_in, segments_in, load}
 use Rattle.elf_file.proofs.FirstFault.{first_fault-behind, first_fault-before, all_hold, not_all_hold}
@@ -29,31 +29,31 @@ module _ (file : List ℕ) where
   abbrev pairs : List Test
   pairs = apart_tests [] (loads file)
 
-  pub fault_of_header : (fault : ElfFault) → first_fault (header_tests file) ≡ Some fault → fault_of file ≡ Some fault
+  pub fault_of_header : (fault : ElfFault) → first_failed (header_tests file) ≡ Some fault → file_fault file ≡ Some fault
   fault_of_header fault some = first_fault-before (header_tests file) (each ++ pairs) fault some
 
-  module _ (header : first_fault (header_tests file) ≡ None) where
-    pub fault_of_segment : (fault : ElfFault) → first_fault each ≡ Some fault → fault_of file ≡ Some fault
+  module _ (header : first_failed (header_tests file) ≡ None) where
+    pub fault_of_segment : (fault : ElfFault) → first_failed each ≡ Some fault → file_fault file ≡ Some fault
     fault_of_segment fault some = first_fault-behind (header_tests file) (each ++ pairs) header ∙ first_fault-before each pairs fault some
 
-    pub fault_of_pair : (fault : ElfFault) → first_fault each ≡ None → first_fault pairs ≡ Some fault → fault_of file ≡ Some fault
+    pub fault_of_pair : (fault : ElfFault) → first_failed each ≡ None → first_failed pairs ≡ Some fault → file_fault file ≡ Some fault
     fault_of_pair fault none some = first_fault-behind (header_tests file) (each ++ pairs) header ∙ first_fault-behind each pairs none ∙ some
 
-    pub no_fault : first_fault each ≡ None → first_fault pairs ≡ None → fault_of file ≡ None
+    pub no_fault : first_failed each ≡ None → first_failed pairs ≡ None → file_fault file ≡ None
     no_fault none apart = first_fault-behind (header_tests file) (each ++ pairs) header ∙ first_fault-behind each pairs none ∙ apart
 
 -- ---- files without a fault
 
-pub loaded_without_fault : (file : List ℕ) (a : ℕ) → fault_of file ≡ None → load file a ≡ Some (memory_of (segments_in file) a)
+pub loaded_without_fault : (file : List ℕ) (a : ℕ) → file_fault file ≡ None → load file a ≡ Some (memory_of (segments_in file) a)
 unfolding is_loadable
 loaded_without_fault file a none = ap (λ b. cond b (Some (memory_of (segments_in file) a)) None) (all_hold (tests file) none)
 
-pub unloaded_with_fault : (file : List ℕ) (fault : ElfFault) (a : ℕ) → fault_of file ≡ Some fault → load file a ≡ None
+pub unloaded_with_fault : (file : List ℕ) (fault : ElfFault) (a : ℕ) → file_fault file ≡ Some fault → load file a ≡ None
 unfolding is_loadable
 unloaded_with_fault file fault a some = ap (λ b. cond b (Some (memory_of (segments_in file) a)) None) (not_all_hold (tests file) fault some)
 
 -- a file that was written has none
-pub no_fault_written : (file : List ℕ) (ss : List Stretch) (fault : ElfFault) → length ss ≤ 72 → are_sound ss ≡ true → file ≡ elf_of ss → fault_of file ≡ Some fault → ⊥
+pub no_fault_written : (file : List ℕ) (ss : List Stretch) (fault : ElfFault) → length ss ≤ 72 → are_sound ss ≡ true → file ≡ elf_of ss → file_fault file ≡ Some fault → ⊥
 no_fault_written file ss fault few sound is some =
     let none : Some (memory_of ss 0) ≡ None = sym (load-elf_of ss 0 few sound) ∙ ap (λ f. load f 0) (sym is) ∙ unloaded_with_fault file fault 0 some in
     (cc)
@@ -68,7 +68,7 @@ only_memory (Clash a b) never = absurd (never (λ is. (cc)))
 only_memory Memory never = refl
 
 segment_sound : (file : List ℕ) (h : ProgramHeader) → list_all (λ t. t.holds) (segment_tests file h) ≡ true
-    → (has_room (segment_in file h) ≡ true) × (lies_in_ram (span_of h) ≡ true)
+    → (has_room (segment_in file h) ≡ true) × (lies_in_ram (header_span h) ≡ true)
 unfolding segment_tests
 segment_sound file h hold =
     let both = and_parts _ _ hold in
@@ -87,11 +87,11 @@ segments_sound file (h ∷ hs) hold =
     let others = segments_sound file hs both.1 in
     (and_from _ _ one.0 others.0, and_from _ _ one.1 others.1)
 
-spans : (file : List ℕ) (hs : List ProgramHeader) → map span_of_stretch (map (segment_in file) hs) ≡ map span_of hs
+spans : (file : List ℕ) (hs : List ProgramHeader) → map span_of_stretch (map (segment_in file) hs) ≡ map header_span hs
 spans file [] = refl
-spans file (h ∷ hs) = ap (λ ss. span_of h ∷ ss) (spans file hs)
+spans file (h ∷ hs) = ap (λ ss. header_span h ∷ ss) (spans file hs)
 
-pub sound_segments : (file : List ℕ) → fault_of file ≡ None → are_sound (segments_in file) ≡ true
+pub sound_segments : (file : List ℕ) → file_fault file ≡ None → are_sound (segments_in file) ≡ true
 sound_segments file none =
     let parts = and_parts (list_all (λ t. t.holds) (header_tests file)) (list_all (λ t. t.holds) (each file ++ pairs file)) (
     sym (list_all-append (λ t. t.holds) (header_tests file) (each file ++ pairs file)) ∙ all_hold (tests file) none

@@ -8,7 +8,7 @@ use Rattle.std.specs.BTreeMap.{BTreeMap, get}
 use Rattle.std.specs.BTreeMap.Range.{IsRangeOf}
 use Rattle.std.proofs.lemmas.Bool.{cases_lt}
 use Rattle.std.proofs.lemmas.Bool.Decides.{nat_tests}
-use Rattle.elf_file.specs.Taken.{Takes, IsSpread, IsTaken}
+use Rattle.elf_file.specs.Taken.{TakesSpan, IsSpread, IsTaken}
 
 compared_below : (a b : ℕ) → nat_cmp a b ≡ Less → a < b
 compared_below a b e = grind (arith, nat_tests)
@@ -23,7 +23,7 @@ compared_not_below a b e =
       | inr le ↦ le
     ]
 
-some_entry : (ends : BTreeMap ℕ ℕ) (at end : ℕ) → Takes ends at end → IsSome (get nat_cmp ends at)
+some_entry : (ends : BTreeMap ℕ ℕ) (at end : ℕ) → TakesSpan ends at end → IsSome (get nat_cmp ends at)
 some_entry ends at end entry = subst (λ (o : Option ℕ). IsSome o) (sym entry) refl
 
 pub taken_by_last : (ends : BTreeMap ℕ ℕ) (at end : ℕ) (r t : List (ℕ × ℕ)) (first last : ℕ) → IsRangeOf nat_cmp Unbounded (Excluded end) ends r

@@ -7,7 +7,7 @@ use Rattle.std.proofs.lemmas.List.Concat.{flat_map-cons}
 use Rattle.std.proofs.lemmas.Nat.{from_le_bytes-to_le_bytes_2, from_le_bytes-to_le_bytes_4, from_le_bytes-to_le_bytes_8}
 use Rattle.rv_fields.specs.Memory.{number_of}
 use Rattle.elf_file.specs.declared.fields.ProgramHeader.{ProgramHeader}
-use Rattle.elf_file.specs.Writing.{Placed, program_header}
+use Rattle.elf_file.specs.Writing.{PlacedSegment, program_header}
 use Rattle.elf_file.specs.Headers.{field, header_offset, header_in, header_at, headers_from}
 
 -- ---- numbers
@@ -40,13 +40,13 @@ unfolding read_again
 read_again-same at fits = number_of-eight at fits
 
 -- a placed segment whose place and sizes fit their fields
-pub record FitsFields (p : Placed) : Type 0 where
+pub record FitsFields (p : PlacedSegment) : Type 0 where
   pub offset : p.offset < 2 ^ 64
   pub filesz : length p.bytes < 2 ^ 64
   pub memsz : p.size < 2 ^ 64
 
 -- the program header of a placed segment, as it is read again
-abbrev pub header_of : ℕ → Placed → ProgramHeader
+abbrev pub header_of : ℕ → PlacedSegment → ProgramHeader
 header_of number p = record {
   number = number;
   kind = 1;
@@ -57,7 +57,7 @@ header_of number p = record {
   memsz = p.size;
 }
 
-abbrev pub headers_of : ℕ → List Placed → List ProgramHeader
+abbrev pub headers_of : ℕ → List PlacedSegment → List ProgramHeader
 headers_of number [] = []
 headers_of number (p ∷ ps) = header_of number p ∷ headers_of (number + 1) ps
 
@@ -69,7 +69,7 @@ field_first : (front file : List ℕ) (at size : ℕ) → length front ≡ at �
 unfolding field
 field_first front file at size is = ap (λ (xs : List ℕ). number_of (take size xs)) (drop_at front file at is)
 
-header_first : (number : ℕ) (p : Placed) (rest : List ℕ) → FitsFields p → header_in (program_header p ++ rest) 0 number ≡ header_of number p
+header_first : (number : ℕ) (p : PlacedSegment) (rest : List ℕ) → FitsFields p → header_in (program_header p ++ rest) 0 number ≡ header_of number p
 unfolding field read_again
 header_first number p rest fits =
     let offset = number_of-eight p.offset fits.offset in
@@ -89,7 +89,7 @@ header_behind front file at number is = λ i. record {
 }
 
 -- the headers of placed segments, behind the file's header and those of other segments
-pub headers_from-placed : (ps : List Placed) (file front rest : List ℕ) (number : ℕ) → file ≡ front ++ (flat_map program_header ps ++ rest)
+pub headers_from-placed : (ps : List PlacedSegment) (file front rest : List ℕ) (number : ℕ) → file ≡ front ++ (flat_map program_header ps ++ rest)
     → header_offset file ≡ 64 → length front ≡ 64 + 56 * number → AllByRecursion FitsFields ps → headers_from file number (length ps) ≡ headers_of number ps
 unfolding header_at
 headers_from-placed [] file front rest number is offset at fits = refl

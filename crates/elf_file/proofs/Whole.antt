@@ -9,7 +9,7 @@ use Rattle.rv_fields.specs.Memory.{ram_end, ram_start}
 use Rattle.ram_image.specs.declared.segment.Segment.{Segment}
 use Rattle.ram_image.specs.Segments.{Stretch, stretch_of, stretches, span_of, has_room, lies_in_ram, are_apart, are_sound, memory_of}
 use Rattle.ram_image.proofs.Spans.{size_in_ram, span_parts}
-use Rattle.elf_file.specs.Writing.{Placed, placed, program_header, file_header, headers_size, elf_of}
+use Rattle.elf_file.specs.Writing.{PlacedSegment, placed, program_header, file_header, headers_size, elf_of}
 use Rattle.elf_file.specs.Loading.{load}
 use Rattle.elf_file.specs.Placing.{laid_from, IsSmall}
 use Rattle.elf_file.proofs.LoadLaw.{length-headers, length-placed, load-elf_of}
@@ -27,7 +27,7 @@ elf_of-parts ss n is =
 pub length_with_headers : (segments : List Segment) (old begun now : List ℕ) → begun ≡ old ++ file_header (length segments)
     → now ≡ begun ++ flat_map program_header (placed (headers_size (length segments)) (stretches segments)) → length now ≡ length old + headers_size (length segments)
 length_with_headers segments old begun now first second =
-    let ps : List Placed = placed (headers_size (length segments)) (stretches segments) in
+    let ps : List PlacedSegment = placed (headers_size (length segments)) (stretches segments) in
     omega (
       arith,
       ap length first,
@@ -46,7 +46,7 @@ pub appended_whole : (segments : List Segment) (old begun further now : List ℕ
     → now ≡ old ++ elf_of (stretches segments)
 appended_whole segments old begun further now first second third =
     let n : ℕ = length segments in
-    let ps : List Placed = placed (headers_size n) (stretches segments) in
+    let ps : List PlacedSegment = placed (headers_size n) (stretches segments) in
     let headers : List ℕ = flat_map program_header ps in
     let bytes : List ℕ = laid_from (headers_size n) ps in
     third ∙ ap (λ xs. xs ++ bytes) (second ∙ ap (λ xs. xs ++ headers) first ∙ append_assoc old (file_header n) headers)

@@ -16,9 +16,9 @@ pub record Test : Type 0 where
   pub fault : ElfFault
 
 -- the fault of the first test that fails
-abbrev pub first_fault : List Test → Option ElfFault
-first_fault [] = None
-first_fault (t ∷ ts) = if t.holds then first_fault ts else Some t.fault
+abbrev pub first_failed : List Test → Option ElfFault
+first_failed [] = None
+first_failed (t ∷ ts) = if t.holds then first_failed ts else Some t.fault
 
 -- the file is long enough to have so many bytes at the offset; no bytes may stand anywhere
 abbrev pub length_test : List ℕ → ℕ → ℕ → Test
@@ -46,20 +46,20 @@ header_tests file =
     ∷ length_test file (header_offset file) (56 * header_count file)
     ∷ []
 
-abbrev pub span_of : ProgramHeader → Span
-span_of h = record { at = h.paddr; size = h.memsz }
+abbrev pub header_span : ProgramHeader → Span
+header_span h = record { at = h.paddr; size = h.memsz }
 
 -- The segment has no more bytes in the file than in memory, it lies in RAM, and its bytes are there.
 unfoldable pub segment_tests : List ℕ → ProgramHeader → List Test
 segment_tests file h =
     record { holds = nat_le h.filesz h.memsz; fault = NotThis FileSize h.filesz }
-    ∷ record { holds = lies_in_ram (span_of h); fault = OutsideRam h.number }
+    ∷ record { holds = lies_in_ram (header_span h); fault = OutsideRam h.number }
     ∷ length_test file h.offset h.filesz
     ∷ []
 
 -- the second segment shares no address with the first
 abbrev pub apart_test : ProgramHeader → ProgramHeader → Test
-apart_test b a = record { holds = is_apart (span_of a) (span_of b); fault = Clash a.number b.number }
+apart_test b a = record { holds = is_apart (header_span a) (header_span b); fault = Clash a.number b.number }
 
 -- Each of the segments is apart from those before it, and from some before all of them.
 abbrev pub apart_tests : List ProgramHeader → List ProgramHeader → List Test
@@ -71,8 +71,8 @@ abbrev pub tests : List ℕ → List Test
 tests file = header_tests file ++ (flat_map (segment_tests file) (loads file) ++ apart_tests [] (loads file))
 
 -- the file's fault, if it has one
-abbrev pub fault_of : List ℕ → Option ElfFault
-fault_of file = first_fault (tests file)
+abbrev pub file_fault : List ℕ → Option ElfFault
+file_fault file = first_failed (tests file)
 
 -- The answer tells the fault; memory may run out in its place, or where there is none.
 abbrev pub Finds : {A : Type 0} → Result A ElfFault → Option ElfFault → Type 0

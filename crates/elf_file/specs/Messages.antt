@@ -6,21 +6,21 @@ use Rattle.elf_file.specs.declared.fault.ElfField.TheVariants.{Class, Encoding, 
 use Rattle.elf_file.specs.declared.fault.ElfFault.{ElfFault}
 use Rattle.elf_file.specs.declared.fault.ElfFault.TheVariants.{Short, NotElf, NotThis, OutsideRam, Clash, Memory}
 
-abbrev pub name_of : ElfField → List ℕ
-name_of Class = codes "class"
-name_of Encoding = codes "data"
-name_of Version = codes "version"
-name_of FileType = codes "type"
-name_of Machine = codes "machine"
-name_of Entry = codes "entry"
-name_of Flags = codes "flags"
-name_of PhEntSize = codes "phentsize"
-name_of FileSize = codes "filesz"
+abbrev pub elf_field_name : ElfField → List ℕ
+elf_field_name Class = codes "class"
+elf_field_name Encoding = codes "data"
+elf_field_name Version = codes "version"
+elf_field_name FileType = codes "type"
+elf_field_name Machine = codes "machine"
+elf_field_name Entry = codes "entry"
+elf_field_name Flags = codes "flags"
+elf_field_name PhEntSize = codes "phentsize"
+elf_field_name FileSize = codes "filesz"
 
-abbrev pub message : ElfFault → List ℕ
-message (Short at) = codes "short at " ++ decimal at
-message NotElf = codes "not ELF"
-message (NotThis field value) = name_of field ++ codes " is " ++ decimal value
-message (OutsideRam segment) = codes "segment " ++ decimal segment ++ codes " outside memory"
-message (Clash a b) = codes "segments " ++ decimal a ++ codes " and " ++ decimal b ++ codes " overlap"
-message Memory = codes "out of memory"
+abbrev pub elf_message : ElfFault → List ℕ
+elf_message (Short at) = codes "short at " ++ decimal at
+elf_message NotElf = codes "not ELF"
+elf_message (NotThis field value) = elf_field_name field ++ codes " is " ++ decimal value
+elf_message (OutsideRam segment) = codes "segment " ++ decimal segment ++ codes " outside memory"
+elf_message (Clash a b) = codes "segments " ++ decimal a ++ codes " and " ++ decimal b ++ codes " overlap"
+elf_message Memory = codes "out of memory"

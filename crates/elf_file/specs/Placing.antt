@@ -6,15 +6,15 @@ use Rattle.elf_file.specs.declared.placing.Placed.{Placed}
 use Rattle.elf_file.specs.Writing as spec
 
 -- a placed segment without where its bytes lie in the generator's memory
-abbrev pub view : Placed → spec.Placed
+abbrev pub view : Placed → spec.PlacedSegment
 view p = record { offset = p.offset; at = p.segment.now.at; bytes = p.bytes.now; size = p.segment.now.size; flags = p.segment.now.flags }
 
 -- what is appended for a segment to a file of so many bytes: zeros up to its place, and its bytes
-abbrev pub padded : ℕ → spec.Placed → List ℕ
-padded from p = if spec.has_bytes p then replicate (p.offset - from) 0 ++ p.bytes else []
+abbrev pub padded_bytes : ℕ → spec.PlacedSegment → List ℕ
+padded_bytes from p = if spec.has_bytes p then replicate (p.offset - from) 0 ++ p.bytes else []
 
 -- what is appended for segments to a file of so many bytes
-abbrev pub laid_from : ℕ → List spec.Placed → List ℕ
+abbrev pub laid_from : ℕ → List spec.PlacedSegment → List ℕ
 laid_from from ps = laid from (map spec.file_piece (filter spec.has_bytes ps))
 
 -- bytes that still begin with what they were before

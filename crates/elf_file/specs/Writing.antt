@@ -24,20 +24,20 @@ abbrev pub page_from : ℕ → ℕ
 page_from n = (n + (page - 1)) / page * page
 
 -- a segment with the offset of its bytes in the file
-pub record Placed : Type 0 where
+pub record PlacedSegment : Type 0 where
   pub offset : ℕ
   pub at : ℕ
   pub bytes : List ℕ
   pub size : ℕ
   pub flags : ℕ
 
-abbrev pub placed_at : ℕ → Stretch → Placed
-placed_at offset s = record { offset = offset; at = s.at; bytes = trimmed s.bytes; size = s.size; flags = s.flags }
+abbrev pub placed_segment : ℕ → Stretch → PlacedSegment
+placed_segment offset s = record { offset = offset; at = s.at; bytes = trimmed s.bytes; size = s.size; flags = s.flags }
 
 -- Segments whose bytes follow one another, each from a new page on, in a file that has so many bytes already.
-abbrev pub placed : ℕ → List Stretch → List Placed
+abbrev pub placed : ℕ → List Stretch → List PlacedSegment
 placed end [] = []
-placed end (s ∷ ss) = placed_at (page_from end) s ∷ placed (page_from end + length (trimmed s.bytes)) ss
+placed end (s ∷ ss) = placed_segment (page_from end) s ∷ placed (page_from end + length (trimmed s.bytes)) ss
 
 -- the lengths of the file's header and of a program header
 abbrev pub header_size : ℕ
@@ -57,24 +57,24 @@ file_header count =
     ++ to_le_bytes w16 0 ++ to_le_bytes w16 0 ++ to_le_bytes w16 0
 
 -- a segment to load: its flags, offset, virtual and physical address, its sizes in the file and in memory
-abbrev pub program_header : Placed → List ℕ
+abbrev pub program_header : PlacedSegment → List ℕ
 program_header p =
     to_le_bytes w32 1 ++ to_le_bytes w32 p.flags ++ to_le_bytes w64 p.offset
     ++ to_le_bytes w64 p.at ++ to_le_bytes w64 p.at
     ++ to_le_bytes w64 (length p.bytes) ++ to_le_bytes w64 p.size ++ to_le_bytes w64 page
 
-abbrev pub has_bytes : Placed → Bool
+abbrev pub has_bytes : PlacedSegment → Bool
 has_bytes p = not (length p.bytes == 0)
 
 -- the bytes of a segment as a piece of the file
-abbrev pub file_piece : Placed → Piece
+abbrev pub file_piece : PlacedSegment → Piece
 file_piece p = record { at = p.offset; bytes = p.bytes }
 
 abbrev pub headers_size : ℕ → ℕ
 headers_size count = header_size + entry_size * count
 
 -- the file of placed segments: it ends with the last of their bytes
-abbrev pub file_of : List Placed → List ℕ
+abbrev pub file_of : List PlacedSegment → List ℕ
 file_of ps = file_header (length ps) ++ flat_map program_header ps
     ++ laid (headers_size (length ps)) (map file_piece (filter has_bytes ps))
 

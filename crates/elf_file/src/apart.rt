@@ -1,6 +1,6 @@
 ghost use Rattle.std.specs.Prelude.{◌≡◌, ◌+◌, ◌<◌, ◌^◌, ◌↔◌, [], IsTrue, All, map, nat_le, option_map, find, not};
 ghost use Rattle.ram_image.specs.Segments.{lies_in_ram, is_apart};
-ghost use Rattle.elf_file.specs.Faults.{first_fault, span_of, apart_test, apart_tests, Finds};
+ghost use Rattle.elf_file.specs.Faults.{first_failed, header_span, apart_test, apart_tests, Finds};
 ghost use Rattle.elf_file.specs.declared.fault.ElfFault.TheVariants.{Clash};
 ghost use Rattle.elf_file.specs.Taken.{IsSpread, IsTaken, AreTaken};
 
@@ -13,8 +13,8 @@ use std::collections::BTreeMap;
 /// with the earliest first one for that. It takes as many steps as there are segments, and for each as many as a
 /// look-up in a map of them takes.
 pub fn check_apart(alloc: Global, headers: &[ProgramHeader]) -> Result<(), ElfFault>
-    requires { All (λ h. IsTrue (lies_in_ram (span_of h))) headers.now }
-    ensures { Finds result (first_fault (apart_tests [] headers.now)) }
+    requires { All (λ h. IsTrue (lies_in_ram (header_span h))) headers.now }
+    ensures { Finds result (first_failed (apart_tests [] headers.now)) }
 {
     let mut ends = BTreeMap::new(alloc);
     for (place, header) in headers.iter().enumerate() {
@@ -35,9 +35,9 @@ fn clash_with(
     ends: &BTreeMap<u64, u64>,
     header: &ProgramHeader,
 ) -> Option<ElfFault>
-    requires ram { IsTrue (lies_in_ram (span_of header.now)) }
+    requires ram { IsTrue (lies_in_ram (header_span header.now)) }
     requires taken { AreTaken before.now ends.now }
-    ensures { result ≡ first_fault (map (apart_test header.now) before.now) }
+    ensures { result ≡ first_failed (map (apart_test header.now) before.now) }
 {
     if header.memsz > 0 && is_taken(ends, header.paddr, header.paddr + header.memsz) {
         first_clash(before, header)
@@ -59,7 +59,7 @@ fn is_taken(ends: &BTreeMap<u64, u64>, at: u64, end: u64) -> bool
 
 /// The clash of a segment with the first of the others that share an address with it.
 fn first_clash(others: &[ProgramHeader], header: &ProgramHeader) -> Option<ElfFault>
-    ensures { result ≡ option_map (λ a. Clash a.number header.now.number) (find (λ a. not (is_apart (span_of a) (span_of header.now))) others.now) }
+    ensures { result ≡ option_map (λ a. Clash a.number header.now.number) (find (λ a. not (is_apart (header_span a) (header_span header.now))) others.now) }
 {
     others
         .iter()
@@ -72,7 +72,7 @@ fn first_clash(others: &[ProgramHeader], header: &ProgramHeader) -> Option<ElfFa
 
 /// Whether the segments share no address.
 fn is_apart(a: &ProgramHeader, b: &ProgramHeader) -> bool
-    ensures { result ≡ is_apart (span_of a.now) (span_of b.now) }
+    ensures { result ≡ is_apart (header_span a.now) (header_span b.now) }
 {
     a.memsz == 0 || b.memsz == 0 || ends_before(a, b) || ends_before(b, a)
 }

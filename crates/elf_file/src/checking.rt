@@ -2,7 +2,7 @@ ghost use Rattle.std.specs.Prelude.{◌≡◌, ◌≤◌, ◌⊎◌, ◌+◌, �
 ghost use Rattle.std.specs.Result.{result_err};
 ghost use Rattle.ram_image.specs.Segments.{lies_in_ram};
 ghost use Rattle.elf_file.specs.Headers.{header_offset, header_count};
-ghost use Rattle.elf_file.specs.Faults.{first_fault, field_test, length_test, header_tests, span_of, segment_tests};
+ghost use Rattle.elf_file.specs.Faults.{first_failed, field_test, length_test, header_tests, header_span, segment_tests};
 
 use crate::fault::{ElfFault, ElfField};
 use crate::fields::{
@@ -14,7 +14,7 @@ use rv_fields::{RESET_PC, in_ram};
 /// Finds the first fault of the file's header, and of the place where the program headers stand.
 #[tactic(auto, unfolding(crate::specs::Faults::header_tests))]
 pub fn check_header(bytes: &[u8]) -> Result<(), ElfFault>
-    ensures fault { result_err result ≡ first_fault (header_tests bytes.now) }
+    ensures fault { result_err result ≡ first_failed (header_tests bytes.now) }
     ensures whole { OnOk result (64 ≤ length bytes.now) }
     ensures there { OnOk result ((56 * header_count bytes.now ≡ 0) ⊎ (header_offset bytes.now + 56 * header_count bytes.now ≤ length bytes.now)) }
 {
@@ -52,8 +52,8 @@ pub fn check_header(bytes: &[u8]) -> Result<(), ElfFault>
 /// Finds the first fault that a segment to load has by itself.
 #[tactic(auto, unfolding(crate::specs::Faults::segment_tests))]
 pub fn check_segment(bytes: &[u8], header: &ProgramHeader) -> Result<(), ElfFault>
-    ensures fault { result_err result ≡ first_fault (segment_tests bytes.now header.now) }
-    ensures ram { OnOk result (IsTrue (lies_in_ram (span_of header.now))) }
+    ensures fault { result_err result ≡ first_failed (segment_tests bytes.now header.now) }
+    ensures ram { OnOk result (IsTrue (lies_in_ram (header_span header.now))) }
 {
     if header.filesz > header.memsz {
         return Err(ElfFault::NotThis {
@@ -78,7 +78,7 @@ fn lies_in_ram(at: u64, size: u64) -> bool
 
 /// Finds a fault where the value of a field isn't the wanted one.
 fn check_field(field: ElfField, value: u64, wanted: u64) -> Result<(), ElfFault>
-    ensures { result_err result ≡ first_fault (field_test field value wanted ∷ []) }
+    ensures { result_err result ≡ first_failed (field_test field value wanted ∷ []) }
 {
     if value == wanted {
         Ok(())
@@ -89,7 +89,7 @@ fn check_field(field: ElfField, value: u64, wanted: u64) -> Result<(), ElfFault>
 
 /// Finds a fault where so many bytes don't stand at the offset. No bytes may stand anywhere.
 fn check_bytes(bytes: &[u8], offset: u64, size: u64) -> Result<(), ElfFault>
-    ensures fault { result_err result ≡ first_fault (length_test bytes.now offset size ∷ []) }
+    ensures fault { result_err result ≡ first_failed (length_test bytes.now offset size ∷ []) }
     ensures there { OnOk result ((size ≡ 0) ⊎ (offset + size ≤ length bytes.now)) }
 {
     let len = bytes.len() as u64;

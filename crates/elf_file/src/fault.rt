@@ -30,9 +30,9 @@ pub enum ElfField {
 }
 
 impl fmt::Display for ElfField {
-    ghost use Rattle.elf_file.specs.Messages.{name_of};
+    ghost use Rattle.elf_file.specs.Messages.{elf_field_name};
 
-    ghost output = { λ field. Some (name_of field) };
+    ghost output = { λ field. Some (elf_field_name field) };
 
     fn fmt<W: fmt::Write>(&self, f: &mut fmt::Formatter<W>) -> fmt::Result {
         f.write_str(match self {
@@ -68,9 +68,9 @@ pub enum ElfFault {
 }
 
 impl fmt::Display for ElfFault {
-    ghost use Rattle.elf_file.specs.Messages.{message};
+    ghost use Rattle.elf_file.specs.Messages.{elf_message};
 
-    ghost output = { λ fault. Some (message fault) };
+    ghost output = { λ fault. Some (elf_message fault) };
 
     fn fmt<W: fmt::Write>(&self, f: &mut fmt::Formatter<W>) -> fmt::Result {
         match *self {

@@ -1,6 +1,6 @@
 ghost use Rattle.std.specs.Prelude.{◌≡◌, ℕ, ◌+◌, ◌<◌, ◌^◌, length};
 ghost use Rattle.ram_image.specs.Segments.{stretch_of};
-ghost use Rattle.elf_file.specs.Writing.{placed_at, page_from, trimmed};
+ghost use Rattle.elf_file.specs.Writing.{placed_segment, page_from, trimmed};
 
 use ram_image::Segment;
 
@@ -22,7 +22,7 @@ impl<'a> Placed<'a> {
     /// The segment at the first page behind so many bytes.
     pub fn behind(end: usize, segment: &'a Segment) -> Placed<'a>
         requires { end < 2 ^ 63 }
-        ensures { view result ≡ placed_at (page_from end) (stretch_of segment.entry.now) }
+        ensures { view result ≡ placed_segment (page_from end) (stretch_of segment.entry.now) }
     {
         Placed {
             offset: end.next_multiple_of(PAGE),

@@ -4,7 +4,7 @@ ghost use Rattle.ram_image.specs.Segments.{Stretch, lies_in_ram, are_sound, memo
 ghost use Rattle.ram_image.specs.Ram.{memory};
 ghost use Rattle.rv_fields.specs.Memory.{in_ram};
 ghost use Rattle.elf_file.specs.Headers.{header_offset, header_count, loads};
-ghost use Rattle.elf_file.specs.Faults.{first_fault, fault_of, span_of, segment_tests, Finds};
+ghost use Rattle.elf_file.specs.Faults.{first_failed, file_fault, header_span, segment_tests, Finds};
 ghost use Rattle.elf_file.specs.Loading.{segment_in, load};
 ghost use Rattle.elf_file.specs.Writing.{elf_of};
 ghost use Rattle.elf_file.specs.declared.fault.ElfFault.TheVariants.{Memory};
@@ -25,7 +25,7 @@ use std::alloc::Global;
 /// segments for each.
 pub fn read_elf(alloc: Global, bytes: &[u8]) -> Result<Ram, ElfFault>
     ensures memory { IfOk result (λ ram. (a : ℕ) → load bytes.now a ≡ Some (memory ram a)) }
-    ensures fault { Finds result (fault_of bytes.now) }
+    ensures fault { Finds result (file_fault bytes.now) }
     ensures unloaded { IfErr result (λ fault. fault ≢ Memory → (a : ℕ) → load bytes.now a ≡ None) }
 
     // What was written is read again.
@@ -39,7 +39,7 @@ pub fn read_elf(alloc: Global, bytes: &[u8]) -> Result<Ram, ElfFault>
 /// Reads the headers of the segments that the file has to load.
 fn read_headers(alloc: Global, bytes: &[u8]) -> Result<Vec<ProgramHeader>, ElfFault>
     ensures loads { IfOk result (λ headers. headers.items ≡ loads bytes.now) }
-    ensures fault { Finds result (fault_of bytes.now) }
+    ensures fault { Finds result (file_fault bytes.now) }
 {
     check_header(bytes)?;
     let headers = read_loads(alloc, bytes)?;
@@ -52,8 +52,8 @@ fn read_loads(alloc: Global, bytes: &[u8]) -> Result<Vec<ProgramHeader>, ElfFaul
     requires whole { 64 ≤ length bytes.now }
     requires there { (56 * header_count bytes.now ≡ 0) ⊎ (header_offset bytes.now + 56 * header_count bytes.now ≤ length bytes.now) }
     ensures loads { IfOk result (λ headers. headers.items ≡ loads bytes.now) }
-    ensures ram { IfOk result (λ headers. All (λ h. IsTrue (lies_in_ram (span_of h))) headers.items) }
-    ensures fault { Finds result (first_fault (flat_map (segment_tests bytes.now) (loads bytes.now))) }
+    ensures ram { IfOk result (λ headers. All (λ h. IsTrue (lies_in_ram (header_span h))) headers.items) }
+    ensures fault { Finds result (first_failed (flat_map (segment_tests bytes.now) (loads bytes.now))) }
 {
     let mut headers = Vec::new(alloc);
     for number in 0..u32::from(header_count(bytes)) {

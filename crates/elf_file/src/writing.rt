@@ -3,7 +3,7 @@ ghost use Rattle.std.specs.List.{flat_map};
 ghost use Rattle.ram_image.specs.Segments.{stretches, are_sound, memory_of};
 ghost use Rattle.elf_file.specs.Writing.{elf_of, placed, headers_size, program_header};
 ghost use Rattle.elf_file.specs.Loading.{load};
-ghost use Rattle.elf_file.specs.Placing.{view, padded, laid_from, BeginsWith, IsSmall};
+ghost use Rattle.elf_file.specs.Placing.{view, padded_bytes, laid_from, BeginsWith, IsSmall};
 
 use crate::headers::{file_header, headers_size, program_header};
 use crate::placing::Placed;
@@ -31,7 +31,7 @@ fn append_bytes(placed: &Placed, start: usize, into: &mut Vec<u8>) -> Result<(),
     requires room { placed.now.offset < 2 ^ 62 }
     requires started { start ≤ length into.old.items }
     requires before { length into.old.items ≤ start + placed.now.offset }
-    ensures bytes { OnOk result (into.new.items ≡ into.old.items ++ padded (length into.old.items - start) (view placed.now)) }
+    ensures bytes { OnOk result (into.new.items ≡ into.old.items ++ padded_bytes (length into.old.items - start) (view placed.now)) }
     ensures kept { BeginsWith into.old.items into.new.items }
 {
     if !placed.bytes.is_empty() {

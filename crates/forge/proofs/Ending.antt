@@ -9,7 +9,7 @@ use Rattle.forge.specs.declared.stop.Stop.{Stop}
 use Rattle.forge.specs.declared.stop.Stop.TheVariants.{Usage, Unread, Unwritten, Refused, TooLong, Memory}
 use Rattle.forge.specs.Words.{Command, command_of, make_serial, replay}
 use Rattle.forge.specs.Generated.{counts_text, IsCountOf}
-use Rattle.forge.specs.Ends.{Ending, HasJudged, IsDone, agrees, differs, made, usage, unread, unwritten, refused, too_long, out_of_memory, inputs, outputs, input_fault, AreHeld, Output, LeftBy, Unchanged, Told, KeepsOthers, Makes, Leaves, Causes, NoCommand, Serves, Ends}
+use Rattle.forge.specs.Ends.{Ending, HasJudged, IsDone, agreed, differs, files_made, usage, unreadable, unwritten, rejected, too_long, out_of_memory, inputs, outputs, input_fault, AreHeld, Output, LeftBy, Unchanged, ToldOfBoth, KeepsOthers, Makes, Leaves, Causes, NoCommand, Serves, Ends}
 use Rattle.forge.specs.Stops.{ending_of, counts_body, IsTold, IsCause, WritesBy, IsMade, Becomes, IsStoppedWrite, StopsLate}
 use Rattle.forge.proofs.Leaving.{others_apart, stopped_since}
 
@@ -63,7 +63,7 @@ told_more : (before now : Option Held) (P Q : Held → Held → Type 0) → ((b 
 told_more None now P Q f told = tt
 told_more (Some b) now P Q f told = some_more now (P b) (Q b) (f b) told
 
-leaves_others : (c : Command) (old new : State) (count harts : ℕ) (lines : List Line) → Leaves c old new count harts lines → Told old new (KeepsOthers c)
+leaves_others : (c : Command) (old new : State) (count harts : ℕ) (lines : List Line) → Leaves c old new count harts lines → ToldOfBoth old new (KeepsOthers c)
 leaves_others c old new count harts lines leaves = told_more old.holds new.holds (LeftBy leaves.files count) (KeepsOthers c) kept leaves.left
   where
     names : map (λ file. file.name) leaves.files ≡ outputs c
@@ -72,14 +72,14 @@ leaves_others c old new count harts lines leaves = told_more old.holds new.holds
     kept : (before now : Held) → LeftBy leaves.files count before now → KeepsOthers c before now
     kept before now left name none = left.others name (others_apart name (suc count) leaves.files (rw names none))
 
-others_of : (c : Command) (old new : State) (ending : Ending) → Causes c old new ending → Told old new (KeepsOthers c)
-others_of c old new (made harts lines) why = leaves_others c old new (length (outputs c)) harts lines why
-others_of c old new (agrees steps) why = unchanged_keeps c old.holds new.holds why.unchanged.0
+others_of : (c : Command) (old new : State) (ending : Ending) → Causes c old new ending → ToldOfBoth old new (KeepsOthers c)
+others_of c old new (files_made harts lines) why = leaves_others c old new (length (outputs c)) harts lines why
+others_of c old new (agreed steps) why = unchanged_keeps c old.holds new.holds why.unchanged.0
 others_of c old new (differs difference) why = unchanged_keeps c old.holds new.holds why.unchanged.0
 others_of c old new usage why = absurd why
-others_of c old new (unread name) why = unchanged_keeps c old.holds new.holds why.unchanged.0
+others_of c old new (unreadable name) why = unchanged_keeps c old.holds new.holds why.unchanged.0
 others_of c old new (unwritten name) why = leaves_others c old new why.number why.harts why.lines why.left
-others_of c old new (refused name reason) why = unchanged_keeps c old.holds new.holds why.0.0
+others_of c old new (rejected name reason) why = unchanged_keeps c old.holds new.holds why.0.0
 others_of c old new (too_long name most) why = unchanged_keeps c old.holds new.holds why.0.0
 others_of c old new out_of_memory why =
     elim why [ inl same ↦ unchanged_keeps c old.holds new.holds same.0 | inr s ↦ leaves_others c old new s.number s.harts s.lines s.left ]
@@ -129,15 +129,15 @@ judged_well c old new ending judged well =
 
 serves_of : (c : Command) (old new : State) (ending : Ending) → Causes c old new ending → ¬ Rose old.read_faults new.read_faults
     → IfSome old.holds (λ before. (contents : List (List ℕ)) → AreHeld before (inputs c) contents → Serves c old new contents ending)
-serves_of c old new (made harts lines) why reads =
-    serves_well c old new (length (outputs c)) harts lines (made harts lines) why (inl tt)
-serves_of c old new (agrees steps) why reads = judged_well c old new (agrees steps) why (inl tt)
+serves_of c old new (files_made harts lines) why reads =
+    serves_well c old new (length (outputs c)) harts lines (files_made harts lines) why (inl tt)
+serves_of c old new (agreed steps) why reads = judged_well c old new (agreed steps) why (inl tt)
 serves_of c old new (differs difference) why reads = judged_well c old new (differs difference) why (inl tt)
 serves_of c old new usage why reads = absurd why
-serves_of c old new (unread name) why reads = absurd (reads why.rose)
+serves_of c old new (unreadable name) why reads = absurd (reads why.rose)
 serves_of c old new (unwritten name) why reads =
     serves_well c old new why.number why.harts why.lines (unwritten name) why.left (inr (inl why.rose))
-serves_of c old new (refused name reason) why reads = serves_badly c old new (refused name reason) why.1.0 why.1.1 why.1.2
+serves_of c old new (rejected name reason) why reads = serves_badly c old new (rejected name reason) why.1.0 why.1.1 why.1.2
 serves_of c old new (too_long name most) why reads = serves_badly c old new (too_long name most) why.1.0 why.1.1 why.1.2
 serves_of c old new out_of_memory why reads =
     if_some old.holds (λ before. (contents : List (List ℕ)) → AreHeld before (inputs c) contents → Serves c old new contents out_of_memory)
@@ -152,7 +152,7 @@ ends words old new ending status out cause told = record {
   status_is = told.0;
   printed_is = told.1;
   cause = cause;
-  others = if_match (command_of words) (NoCommand old new ending) (λ c. Causes c old new ending) (λ c. Told old new (KeepsOthers c))
+  others = if_match (command_of words) (NoCommand old new ending) (λ c. Causes c old new ending) (λ c. ToldOfBoth old new (KeepsOthers c))
       (λ c why. others_of c old new ending why) cause;
   serves = if_match (command_of words) (NoCommand old new ending) (λ c. Causes c old new ending)
       (λ c. ¬ Rose old.read_faults new.read_faults
@@ -246,7 +246,7 @@ pub ends_written : (c : Command) (old mid new : State) (files : List Output) (co
     → OnOk result (Becomes mid new (LeftBy files (length (outputs c)))) → IfErr result (λ stop. StopsLate files mid new (ending_of stop))
     → WritesBy (Causes c old new) result out
 ends_written c old mid new files counts (Ok u) out same m text written stopped =
-    (made m.harts m.lines, leaves c old mid new files counts (length (outputs c)) same.0 m written, (refl, text ∙ counts_line counts m.harts m.lines m.counted))
+    (files_made m.harts m.lines, leaves c old mid new files counts (length (outputs c)) same.0 m written, (refl, text ∙ counts_line counts m.harts m.lines m.counted))
 ends_written c old mid new files counts (Err stop) out same m text written stopped =
     on_some (slice_get files stopped.number) (λ file. IsStoppedWrite file.name mid new (ending_of stop)) stopped.at_hand
     (λ file at why. stopped_at c old new stopped.number m.harts m.lines (leaves c old mid new files counts stopped.number same.0 m stopped.left) file

@@ -5,7 +5,7 @@ use Rattle.std.specs.List.{AllByRecursion}
 use Rattle.store_face.specs.State.{Held, State, Rose}
 use Rattle.store_face.specs.Calls as store
 use Rattle.forge.specs.declared.made.Made.{Made}
-use Rattle.forge.specs.Words.{Making}
+use Rattle.forge.specs.Words.{MakingSerial}
 use Rattle.forge.specs.Ends.{Ending, unwritten, Output, LeftBy}
 use Rattle.forge.specs.Stops.{WhereTold, Becomes, IsStoppedWrite, StopsLate, files_of}
 
@@ -51,7 +51,7 @@ more_left files n file before now at written left = record {
 
 -- The same of what stores tell.
 still_told : (files : List Output) (n : ℕ) (file : Output) (before mid now : Option Held) → slice_get files n ≡ Some file
-    → AllByRecursion (λ f. f.name ≢ file.name) (take n files) → store.KeepsOthers file.name mid now
+    → AllByRecursion (λ f. f.name ≢ file.name) (take n files) → store.KeepsAllBut file.name mid now
     → MatchOption before (mid ≡ None) (λ b. IsSomeAnd mid (λ m. LeftBy files n b m))
     → MatchOption before (now ≡ None) (λ b. IsSomeAnd now (λ m. LeftBy files n b m))
 still_told files n file None None now at apart kept left = kept
@@ -76,7 +76,7 @@ none_written : (files : List Output) (old : State) → Becomes old old (LeftBy f
 none_written files old = none_told files old.holds
 
 one_written : (files : List Output) (n : ℕ) (file : Output) (old mid new : State) → slice_get files n ≡ Some file
-    → AllByRecursion (λ f. f.name ≢ file.name) (take n files) → store.KeepsOthers file.name mid.holds new.holds
+    → AllByRecursion (λ f. f.name ≢ file.name) (take n files) → store.KeepsAllBut file.name mid.holds new.holds
     → WhereTold new (λ held. held file.name ≡ Some file.bytes) → Becomes old mid (LeftBy files n) → Becomes old new (LeftBy files (suc n))
 one_written files n file old mid new at apart kept written left =
     more_told files n file old.holds new.holds at written (still_told files n file old.holds mid.holds new.holds at apart kept left)
@@ -94,7 +94,7 @@ at_hand : {A : Type 0} (P : A → Type 0) (n : ℕ) (xs : List A) (x : A) → sl
 at_hand {A} P n xs x at p = let F : Option A → Type 0 = λ o. IsSomeAnd o P in subst F (sym at) p
 
 stopped_late : (files : List Output) (n : ℕ) (file : Output) (old mid new : State) (ending : Ending) → slice_get files n ≡ Some file
-    → AllByRecursion (λ f. f.name ≢ file.name) (take n files) → store.KeepsOthers file.name mid.holds new.holds
+    → AllByRecursion (λ f. f.name ≢ file.name) (take n files) → store.KeepsAllBut file.name mid.holds new.holds
     → old.write_faults ≤ mid.write_faults → IsStoppedWrite file.name mid new ending → Becomes old mid (LeftBy files n)
     → StopsLate files old new ending
 stopped_late files n file old mid new ending at apart kept up why left = record {
@@ -103,35 +103,35 @@ stopped_late files n file old mid new ending at apart kept up why left = record 
   left = still_told files n file old.holds mid.holds new.holds at apart kept left;
 }
 
-elf_whole : (m : Making) (made : Made) (old first : State) (elf : List ℕ) → elf ≡ made.elf.items → store.KeepsOthers m.elf old.holds first.holds
+elf_whole : (m : MakingSerial) (made : Made) (old first : State) (elf : List ℕ) → elf ≡ made.elf.items → store.KeepsAllBut m.elf old.holds first.holds
     → WhereTold first (λ held. held m.elf ≡ Some elf) → Becomes old first (LeftBy (files_of m made) 1)
 elf_whole m made old first elf same kept written = one_written (files_of m made) 0 (record { name = m.elf; bytes = made.elf.items }) old old first refl tt kept
     (λ held told. written held told ∙ ap Some same) (none_written (files_of m made) old)
 
-order_whole : (m : Making) (made : Made) (old first second : State) (order : List ℕ) → m.elf ≢ m.order → order ≡ made.order.items
-    → store.KeepsOthers m.order first.holds second.holds → WhereTold second (λ held. held m.order ≡ Some order)
+order_whole : (m : MakingSerial) (made : Made) (old first second : State) (order : List ℕ) → m.elf ≢ m.order → order ≡ made.order.items
+    → store.KeepsAllBut m.order first.holds second.holds → WhereTold second (λ held. held m.order ≡ Some order)
     → Becomes old first (LeftBy (files_of m made) 1) → Becomes old second (LeftBy (files_of m made) 2)
 order_whole m made old first second order apart same kept written left =
     one_written (files_of m made) 1 (record { name = m.order; bytes = made.order.items }) old first second refl (apart, tt) kept
     (λ held told. written held told ∙ ap Some same) left
 
 -- the second write stopped it
-pub stopped_at_order : (m : Making) (made : Made) (old first second : State) (elf : List ℕ) (ending : Ending) → m.elf ≢ m.order
-    → elf ≡ made.elf.items → store.KeepsOthers m.elf old.holds first.holds → old.write_faults ≤ first.write_faults
+pub stopped_at_order : (m : MakingSerial) (made : Made) (old first second : State) (elf : List ℕ) (ending : Ending) → m.elf ≢ m.order
+    → elf ≡ made.elf.items → store.KeepsAllBut m.elf old.holds first.holds → old.write_faults ≤ first.write_faults
     → WhereTold first (λ held. held m.elf ≡ Some elf)
-    → store.KeepsOthers m.order first.holds second.holds → IsStoppedWrite m.order first second ending → StopsLate (files_of m made) old second ending
+    → store.KeepsAllBut m.order first.holds second.holds → IsStoppedWrite m.order first second ending → StopsLate (files_of m made) old second ending
 stopped_at_order m made old first second elf ending apart same kept up written last_kept why =
     stopped_late (files_of m made) 1 (record { name = m.order; bytes = made.order.items }) old first second ending refl (apart, tt) last_kept up why
     (elf_whole m made old first elf same kept written)
 
 -- the third one
-pub stopped_at_trace : (m : Making) (made : Made) (old first second third : State) (elf order : List ℕ) (ending : Ending)
+pub stopped_at_trace : (m : MakingSerial) (made : Made) (old first second third : State) (elf order : List ℕ) (ending : Ending)
     → m.elf ≢ m.order → m.elf ≢ m.trace → m.order ≢ m.trace
-    → elf ≡ made.elf.items → store.KeepsOthers m.elf old.holds first.holds → old.write_faults ≤ first.write_faults
+    → elf ≡ made.elf.items → store.KeepsAllBut m.elf old.holds first.holds → old.write_faults ≤ first.write_faults
     → WhereTold first (λ held. held m.elf ≡ Some elf)
-    → order ≡ made.order.items → store.KeepsOthers m.order first.holds second.holds → first.write_faults ≤ second.write_faults
+    → order ≡ made.order.items → store.KeepsAllBut m.order first.holds second.holds → first.write_faults ≤ second.write_faults
     → WhereTold second (λ held. held m.order ≡ Some order)
-    → store.KeepsOthers m.trace second.holds third.holds → IsStoppedWrite m.trace second third ending → StopsLate (files_of m made) old third ending
+    → store.KeepsAllBut m.trace second.holds third.holds → IsStoppedWrite m.trace second third ending → StopsLate (files_of m made) old third ending
 stopped_at_trace m made old first second third elf order ending elf_order elf_trace order_trace same kept up written next_same next_kept next_up next_written last_kept why =
     stopped_late (files_of m made) 2 (record { name = m.trace; bytes = made.trace.items }) old second third ending refl (elf_trace, (order_trace, tt)) last_kept
     (omega (arith, up, next_up)) why

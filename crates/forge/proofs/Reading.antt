@@ -21,9 +21,9 @@ use Rattle.trace_replay.specs.declared.verdict.Verdict.{Verdict}
 use Rattle.trace_replay.specs.declared.verdict.Verdict.TheVariants.{Agrees, Differs}
 use Rattle.trace_replay.specs.Verdicts.{IsFaultOf, verdict_text}
 use Rattle.trace_replay.proofs.Agreement.{files_sound}
-use Rattle.forge.specs.Words.{Command, Making, Replaying, make_serial, replay}
+use Rattle.forge.specs.Words.{Command, MakingSerial, Replaying, make_serial, replay}
 use Rattle.forge.specs.Generated.{IsCountOf, IsRunOf, drawn}
-use Rattle.forge.specs.Ends.{Ending, unread, refused, too_long, out_of_memory, inputs, most_bytes, length_fault, form_fault, input_fault, AreHeld, IsThere, Output, Unchanged, IsRunFrom, HasJudged, printed, IsJudged, ending_on, Causes}
+use Rattle.forge.specs.Ends.{Ending, unreadable, rejected, too_long, out_of_memory, inputs, most_bytes, length_fault, form_fault, input_fault, AreHeld, IsThere, Output, Unchanged, IsRunFrom, HasJudged, printed, IsJudged, ending_on, Causes}
 use Rattle.forge.specs.Stops.{IsContent, IsStoppedRead, IsStoppedForm, IsReadFor, AreRead, IsMade, IsMadeFrom, files_of, stop_ending}
 
 -- ---- one name more
@@ -253,7 +253,7 @@ stopped_read c names most number old mid new contents long name ending are at b 
     rose r = elim r [ inl below ↦ inl (omega (arith, below, b.counts_up)) | inr full ↦ inr full ]
 
     stopped : (ending : Ending) → IsStoppedRead name mid new ending → Causes c old new ending
-    stopped (unread file) why = record {
+    stopped (unreadable file) why = record {
       rose = rose why.1;
       last = why.2 ∙ sym why.0;
       number = number;
@@ -308,17 +308,17 @@ accepted_read c old contents read = rw read.short refl
 -- what one of them holds stopped the command
 pub stopped_form : (c : Command) (old new : State) (contents : List (List ℕ)) (ending : Ending) → AreRead c old contents → Unchanged old new
     → IsStoppedForm c contents ending → Causes c old new ending
-stopped_form c old new contents (refused name reason) read same why = (same, (contents, read.held, accepted_read c old contents read ∙ why))
+stopped_form c old new contents (rejected name reason) read same why = (same, (contents, read.held, accepted_read c old contents read ∙ why))
 stopped_form c old new contents out_of_memory read same why = inl same
 stopped_form c old new contents ending read same why = absurd why
 
 -- contents of which files were made are accepted
-accepted : (m : Making) (contents : List (List ℕ)) (files : List Output) (harts : ℕ) (lines : List Line) → IsRunFrom m contents files harts lines
+accepted : (m : MakingSerial) (contents : List (List ℕ)) (files : List Output) (harts : ℕ) (lines : List Line) → IsRunFrom m contents files harts lines
     → form_fault (make_serial m) contents ≡ None
 accepted m contents files harts lines run = rw (run.contents_are, run.job_read, run.trees_read) refl
 
 -- a run of what the contents spell
-pub made_from : (m : Making) (job trees : List ℕ) (made : Made) (work : Work) (lines : List Line) → job_in job ≡ Some work → forest_in trees ≡ Some []
+pub made_from : (m : MakingSerial) (job trees : List ℕ) (made : Made) (work : Work) (lines : List Line) → job_in job ≡ Some work → forest_in trees ≡ Some []
     → IsRunOf work [] m.seed drawn made.elf.items made.order.items made.trace.items lines → IsCountOf made.counts (hart_count work) lines
     → IsMadeFrom m job trees made
 made_from m job trees made work lines job_read trees_read run counts = record {
@@ -351,7 +351,7 @@ both f (p ∷ q ∷ []) a b x y two ha hb hx hy = cc
 both f (p ∷ q ∷ r ∷ rs) a b x y two ha hb hx hy = absurd (omega (arith, two))
 
 -- what make-serial made of them
-pub serial_made : (m : Making) (old : State) (job trees : List ℕ) (made : Made) → AreRead (make_serial m) old (job ∷ trees ∷ []) → IsMadeFrom m job trees made
+pub serial_made : (m : MakingSerial) (old : State) (job trees : List ℕ) (made : Made) → AreRead (make_serial m) old (job ∷ trees ∷ []) → IsMadeFrom m job trees made
     → IsMade (make_serial m) old (files_of m made) made.counts
 serial_made m old job trees made read from = record {
   contents = job ∷ trees ∷ [];

@@ -8,11 +8,11 @@ use Rattle.region_plan.specs.Plan.{Work, hart_count}
 use Rattle.trace_fields.specs.declared.fault.LineFault.TheVariants.{At}
 use Rattle.trace_fields.specs.Fields.{Place}
 use Rattle.trace_text.specs.Lines.{Line}
-use Rattle.trace_fields.specs.Messages.{message as line_message}
+use Rattle.trace_fields.specs.Messages.{line_message}
 use Rattle.trace_text.specs.Orders.{order_fault}
 use Rattle.trace_text.specs.Traces.{trace_fault}
-use Rattle.elf_file.specs.Faults.{fault_of}
-use Rattle.elf_file.specs.Messages.{message as elf_message}
+use Rattle.elf_file.specs.Faults.{file_fault}
+use Rattle.elf_file.specs.Messages.{elf_message}
 use Rattle.rv_machine.specs.declared.reset.Reset.{Reset}
 use Rattle.trace_replay.specs.declared.verdict.Verdict.{Verdict}
 use Rattle.trace_replay.specs.declared.verdict.Verdict.TheVariants.{Agrees, Differs}
@@ -22,36 +22,36 @@ use Rattle.trace_replay.specs.Verdicts as verdicts
 use Rattle.trace_replay.specs.Verdicts.{IsVerdict, difference_seen, difference_text}
 use Rattle.job_read.specs.Accepted.{job_in}
 use Rattle.store_face.specs.State.{Held, State, Rose}
-use Rattle.forge.specs.Words.{Command, Making, command_of, make_serial, replay}
+use Rattle.forge.specs.Words.{Command, MakingSerial, command_of, make_serial, replay}
 use Rattle.forge.specs.Generated.{IsRunOf, counts_text, drawn}
 
 -- ---- endings, their statuses and what is printed
 
 pub data Ending : Type 0 where
   -- the files of a run of so many harts are written, whose lines these are
-  made : ℕ → List Line → Ending
+  files_made : ℕ → List Line → Ending
   -- the trace, which has so many step lines, tells what the program does; or this is the first difference
-  agrees : ℕ → Ending
+  agreed : ℕ → Ending
   differs : Difference → Ending
   -- the words are not a command
   usage : Ending
   -- the file of this name can't be read, or can't be written
-  unread : List ℕ → Ending
+  unreadable : List ℕ → Ending
   unwritten : List ℕ → Ending
   -- what the file of this name holds isn't accepted, for this reason
-  refused : List ℕ → List ℕ → Ending
+  rejected : List ℕ → List ℕ → Ending
   -- the file of this name has more bytes than so many
   too_long : List ℕ → ℕ → Ending
   out_of_memory : Ending
 
 abbrev pub status_of : Ending → ℕ
-status_of (made harts lines) = 0
-status_of (agrees steps) = 0
+status_of (files_made harts lines) = 0
+status_of (agreed steps) = 0
 status_of (differs difference) = 1
 status_of usage = 3
-status_of (unread name) = 4
+status_of (unreadable name) = 4
 status_of (unwritten name) = 5
-status_of (refused name reason) = 6
+status_of (rejected name reason) = 6
 status_of (too_long name most) = 7
 status_of out_of_memory = 8
 
@@ -60,13 +60,13 @@ abbrev pub usage_text : List ℕ
 usage_text = codes "usage: make|make-serial JOB TREES SEED ELF ORDER TRACE; replay ELF ORDER TRACE; big N JOB TREES; check JOB TREES"
 
 abbrev pub printed : Ending → List ℕ
-printed (made harts lines) = counts_text harts lines
-printed (agrees steps) = codes "agrees " ++ decimal steps ++ codes " steps\n"
+printed (files_made harts lines) = counts_text harts lines
+printed (agreed steps) = codes "agrees " ++ decimal steps ++ codes " steps\n"
 printed (differs difference) = difference_text difference ++ codes "\n"
 printed usage = usage_text ++ codes "\n"
-printed (unread name) = codes "cannot read " ++ name ++ codes "\n"
+printed (unreadable name) = codes "cannot read " ++ name ++ codes "\n"
 printed (unwritten name) = codes "cannot write " ++ name ++ codes "\n"
-printed (refused name reason) = name ++ codes ": " ++ reason ++ codes "\n"
+printed (rejected name reason) = name ++ codes ": " ++ reason ++ codes "\n"
 printed (too_long name most) = name ++ codes ": longer than " ++ decimal most ++ codes " bytes\n"
 printed out_of_memory = []
 
@@ -95,12 +95,12 @@ length_fault most (name ∷ names) (content ∷ contents) =
 
 -- what isn't accepted yet
 abbrev pub unless_read : {A : Type 0} → List ℕ → Option A → Option Ending
-unless_read name None = Some (refused name (codes "not built yet"))
+unless_read name None = Some (rejected name (codes "not built yet"))
 unless_read name (Some value) = None
 
 -- what is at fault
 abbrev pub if_faulty : {A : Type 0} → List ℕ → (A → List ℕ) → Option A → Option Ending
-if_faulty name text fault = option_map (λ fault. refused name (text fault)) fault
+if_faulty name text fault = option_map (λ fault. rejected name (text fault)) fault
 
 -- the wrong field of a line, as its fault is told
 abbrev pub place_text : Place → List ℕ
@@ -110,7 +110,7 @@ place_text place = line_message (At place.line place.field)
 abbrev pub form_fault : Command → List (List ℕ) → Option Ending
 form_fault (make_serial m) (job ∷ trees ∷ []) = option_or (unless_read m.job (job_in job)) (unless_read m.trees (forest_in trees))
 form_fault (replay r) (elf ∷ order ∷ trace ∷ []) =
-    option_or (if_faulty r.elf elf_message (fault_of elf))
+    option_or (if_faulty r.elf elf_message (file_fault elf))
     (option_or (if_faulty r.order place_text (order_fault order)) (if_faulty r.trace place_text (trace_fault trace)))
 form_fault c contents = None
 
@@ -151,15 +151,15 @@ abbrev pub Unchanged : State → State → Type 0
 Unchanged old new = (new.holds ≡ old.holds) × (new.write_faults ≡ old.write_faults)
 
 -- what the store told of before it tells of after, and the fact holds of both
-abbrev pub Told : State → State → (Held → Held → Type 0) → Type 0
-Told old new P = IfSome old.holds (λ before. IsSomeAnd new.holds (λ now. P before now))
+abbrev pub ToldOfBoth : State → State → (Held → Held → Type 0) → Type 0
+ToldOfBoth old new P = IfSome old.holds (λ before. IsSomeAnd new.holds (λ now. P before now))
 
 -- every name but those that the command writes holds what it held
 abbrev pub KeepsOthers : Command → Held → Held → Type 0
 KeepsOthers c before now = (name : List ℕ) → AllByRecursion (λ output. name ≢ output) (outputs c) → now name ≡ before name
 
 -- The three files are those of a run, under the drawn schedule, of the job and the trees that these contents spell.
-pub record IsRunFrom (m : Making) (contents : List (List ℕ)) (files : List Output) (harts : ℕ) (lines : List Line) : Type 0 where
+pub record IsRunFrom (m : MakingSerial) (contents : List (List ℕ)) (files : List Output) (harts : ℕ) (lines : List Line) : Type 0 where
   pub job : List ℕ
   pub trees : List ℕ
   pub contents_are : contents ≡ job ∷ trees ∷ []
@@ -186,7 +186,7 @@ pub record Leaves (c : Command) (old new : State) (count harts : ℕ) (lines : L
   pub accepted : input_fault c contents ≡ None
   pub files : List Output
   pub made : Makes c contents files harts lines
-  pub left : Told old new (LeftBy files count)
+  pub left : ToldOfBoth old new (LeftBy files count)
 
 -- ---- what it judges
 
@@ -196,14 +196,14 @@ zeros = record { x = replicate 31 0; csrs = replicate 19 0 }
 
 -- what the verdict ends the command with
 abbrev pub ending_on : Verdict → Ending
-ending_on (Agrees steps) = agrees steps
+ending_on (Agrees steps) = agreed steps
 ending_on (Differs first) = differs (difference_seen first)
 
 -- The verdict on three files from the reset with zeros in all registers. It agrees exactly where they pass from it.
 pub record IsJudged (elf order trace : List ℕ) (ending : Ending) : Type 0 where
   pub verdict : Verdict
   pub is : IsVerdict zeros elf order trace verdict
-  pub exactly : (verdicts.agrees verdict ≡ true) ↔ PassesFrom zeros elf order trace
+  pub exactly : (verdicts.is_agreement verdict ≡ true) ↔ PassesFrom zeros elf order trace
   pub ending_is : ending ≡ ending_on verdict
 
 -- what the command judges of these contents
@@ -250,13 +250,13 @@ pub record StopsWriting (c : Command) (old new : State) : Type 0 where
 
 -- Each ending with its cause, and what it leaves.
 abbrev pub Causes : Command → State → State → Ending → Type 0
-Causes c old new (made harts lines) = Leaves c old new (length (outputs c)) harts lines
-Causes c old new (agrees steps) = HasJudged c old new (agrees steps)
+Causes c old new (files_made harts lines) = Leaves c old new (length (outputs c)) harts lines
+Causes c old new (agreed steps) = HasJudged c old new (agreed steps)
 Causes c old new (differs difference) = HasJudged c old new (differs difference)
 Causes c old new usage = ⊥
-Causes c old new (unread name) = ReadFails c old new name
+Causes c old new (unreadable name) = ReadFails c old new name
 Causes c old new (unwritten name) = WriteFails c old new name
-Causes c old new (refused name reason) = Unchanged old new × OfInputs c old (λ contents. input_fault c contents ≡ Some (refused name reason))
+Causes c old new (rejected name reason) = Unchanged old new × OfInputs c old (λ contents. input_fault c contents ≡ Some (rejected name reason))
 Causes c old new (too_long name most) = Unchanged old new × OfInputs c old (λ contents. input_fault c contents ≡ Some (too_long name most))
 -- before the first write, or within a write
 Causes c old new out_of_memory = Unchanged old new ⊎ StopsWriting c old new
@@ -267,8 +267,8 @@ NoCommand old new ending = (new ≡ old) × ((ending ≡ usage) ⊎ (ending ≡ 
 
 -- the command has done what it was asked for
 abbrev pub IsDone : Ending → Type 0
-IsDone (made harts lines) = Unit {0}
-IsDone (agrees steps) = Unit {0}
+IsDone (files_made harts lines) = Unit {0}
+IsDone (agreed steps) = Unit {0}
 IsDone (differs difference) = Unit {0}
 IsDone ending = ⊥
 
@@ -288,7 +288,7 @@ pub record Ends (words : List (List ℕ)) (old new : State) (status : ℕ) (out 
   -- why, and what that leaves
   pub cause : MatchOption (command_of words) (NoCommand old new ending) (λ c. Causes c old new ending)
   -- whatever comes, every name but those that the command writes holds what it held
-  pub others : IfSome (command_of words) (λ c. Told old new (KeepsOthers c))
+  pub others : IfSome (command_of words) (λ c. ToldOfBoth old new (KeepsOthers c))
   -- inputs that are there end it as they should, where no read failed
   pub serves : IfSome (command_of words) (λ c. ¬ Rose old.read_faults new.read_faults
       → IfSome old.holds (λ before. (contents : List (List ℕ)) → AreHeld before (inputs c) contents → Serves c old new contents ending))

@@ -61,23 +61,23 @@ is_step (found e) = true
 is_step (ending e) = true
 is_step line = false
 
-abbrev pub is_done : Line → Bool
-is_done (done h k) = true
-is_done line = false
+abbrev pub tells_done : Line → Bool
+tells_done (done h k) = true
+tells_done line = false
 
-abbrev pub is_refused : Line → Bool
-is_refused (refused h k cause preamble) = true
-is_refused line = false
+abbrev pub tells_refused : Line → Bool
+tells_refused (refused h k cause preamble) = true
+tells_refused line = false
 
 -- the numbers that a trace tells: its harts, and its lines of steps, of requests that are done and of refused ones
 pub record IsCountOf (counts : Counts) (harts : ℕ) (lines : List Line) : Type 0 where
   pub harts_is : counts.harts ≡ harts
   pub steps_is : counts.steps ≡ count_by is_step lines
-  pub done_is : counts.done ≡ count_by is_done lines
-  pub refused_is : counts.refused ≡ count_by is_refused lines
+  pub done_is : counts.done ≡ count_by tells_done lines
+  pub refused_is : counts.refused ≡ count_by tells_refused lines
 
 -- the line that tells these numbers
 abbrev pub counts_text : ℕ → List Line → List ℕ
 counts_text harts lines =
     codes "harts " ++ decimal harts ++ codes " steps " ++ decimal (count_by is_step lines)
-    ++ codes " done " ++ decimal (count_by is_done lines) ++ codes " refused " ++ decimal (count_by is_refused lines) ++ codes "\n"
+    ++ codes " done " ++ decimal (count_by tells_done lines) ++ codes " refused " ++ decimal (count_by tells_refused lines) ++ codes "\n"

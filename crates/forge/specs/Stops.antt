@@ -8,8 +8,8 @@ use Rattle.forge.specs.declared.command.Command.TheVariants as commands
 use Rattle.forge.specs.declared.made.Counts.{Counts}
 use Rattle.forge.specs.declared.made.Made.{Made}
 use Rattle.forge.specs.declared.serial.MakeSerial.{MakeSerial}
-use Rattle.elf_file.specs.Messages.{message as elf_message}
-use Rattle.trace_fields.specs.Messages.{message as line_message}
+use Rattle.elf_file.specs.Messages.{elf_message}
+use Rattle.trace_fields.specs.Messages.{line_message}
 use Rattle.trace_replay.specs.declared.verdict.ReplayFault.{ReplayFault}
 use Rattle.trace_replay.specs.declared.verdict.ReplayFault.TheVariants as faults
 use Rattle.forge.specs.declared.replaying.Replay.{Replay}
@@ -17,14 +17,14 @@ use Rattle.forge.specs.declared.stop.Reason.{Reason}
 use Rattle.forge.specs.declared.stop.Reason.TheVariants.{NotBuilt, Elf, Line}
 use Rattle.forge.specs.declared.stop.Stop.{Stop}
 use Rattle.forge.specs.declared.stop.Stop.TheVariants.{Usage, Unread, Unwritten, Refused, TooLong, Memory}
-use Rattle.forge.specs.Words.{Command, Making, Replaying, command_of, make_serial, replay}
+use Rattle.forge.specs.Words.{Command, MakingSerial, Replaying, command_of, make_serial, replay}
 use Rattle.forge.specs.Generated.{IsCountOf}
-use Rattle.forge.specs.Ends.{Ending, usage, unread, unwritten, refused, too_long, out_of_memory, status_of, printed, inputs, most_bytes, length_fault, form_fault, input_fault, AreHeld, Output, LeftBy, IsRunFrom, Makes, Causes, NoCommand, usage_text}
+use Rattle.forge.specs.Ends.{Ending, usage, unreadable, unwritten, rejected, too_long, out_of_memory, status_of, printed, inputs, most_bytes, length_fault, form_fault, input_fault, AreHeld, Output, LeftBy, IsRunFrom, Makes, Causes, NoCommand, usage_text}
 
 -- ---- commands
 
 -- what the words of make-serial were parsed into
-abbrev pub making_seen : MakeSerial → Making
+abbrev pub making_seen : MakeSerial → MakingSerial
 making_seen m = record {
   job = m.job.now;
   trees = m.trees.now;
@@ -57,17 +57,17 @@ reason_body (Line fault) = line_message fault
 -- what a stop ends the command with
 abbrev pub ending_of : Stop → Ending
 ending_of Usage = usage
-ending_of (Unread name) = unread name.now
+ending_of (Unread name) = unreadable name.now
 ending_of (Unwritten name) = unwritten name.now
-ending_of (Refused name reason) = refused name.now (reason_body reason)
+ending_of (Refused name reason) = rejected name.now (reason_body reason)
 ending_of (TooLong name most) = too_long name.now most
 ending_of Memory = out_of_memory
 
 -- what a fault of one of the files of replay ends it with
 abbrev pub stop_ending : Replaying → ReplayFault → Ending
-stop_ending r (faults.Elf fault) = refused r.elf (elf_message fault)
-stop_ending r (faults.Order fault) = refused r.order (line_message fault)
-stop_ending r (faults.Trace fault) = refused r.trace (line_message fault)
+stop_ending r (faults.Elf fault) = rejected r.elf (elf_message fault)
+stop_ending r (faults.Order fault) = rejected r.order (line_message fault)
+stop_ending r (faults.Trace fault) = rejected r.trace (line_message fault)
 stop_ending r faults.Memory = out_of_memory
 
 -- the line of a stop, without its newline
@@ -110,7 +110,7 @@ IsContent old name most content =
 
 -- a read of the name stopped the command
 abbrev pub IsStoppedRead : List ℕ → State → State → Ending → Type 0
-IsStoppedRead name old new (unread file) = (file ≡ name) × Rose old.read_faults new.read_faults × (new.last ≡ name)
+IsStoppedRead name old new (unreadable file) = (file ≡ name) × Rose old.read_faults new.read_faults × (new.last ≡ name)
 IsStoppedRead name old new out_of_memory = Unit {0}
 IsStoppedRead name old new ending = ⊥
 
@@ -127,20 +127,20 @@ pub record AreRead (c : Command) (old : State) (contents : List (List ℕ)) : Ty
 
 -- what one of the contents holds stopped the command
 abbrev pub IsStoppedForm : Command → List (List ℕ) → Ending → Type 0
-IsStoppedForm c contents (refused name reason) = form_fault c contents ≡ Some (refused name reason)
+IsStoppedForm c contents (rejected name reason) = form_fault c contents ≡ Some (rejected name reason)
 IsStoppedForm c contents out_of_memory = Unit {0}
 IsStoppedForm c contents ending = ⊥
 
 -- ---- what is made
 
 -- the files that were made, under the names of the command
-abbrev pub files_of : Making → Made → List Output
+abbrev pub files_of : MakingSerial → Made → List Output
 files_of m made =
     record { name = m.elf; bytes = made.elf.items } ∷ record { name = m.order; bytes = made.order.items }
     ∷ record { name = m.trace; bytes = made.trace.items } ∷ []
 
 -- what make-serial made from the contents of both input files
-pub record IsMadeFrom (m : Making) (job trees : List ℕ) (made : Made) : Type 0 where
+pub record IsMadeFrom (m : MakingSerial) (job trees : List ℕ) (made : Made) : Type 0 where
   pub harts : ℕ
   pub lines : List model.Line
   pub run : IsRunFrom m (job ∷ trees ∷ []) (files_of m made) harts lines

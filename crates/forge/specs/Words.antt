@@ -5,7 +5,7 @@ use Rattle.std.specs.Str.{bytes_eq}
 use Rattle.rv_fields.specs.Attempt.{◌>>=◌}
 
 -- the files and the seed of make-serial
-pub record Making : Type 0 where
+pub record MakingSerial : Type 0 where
   pub job : List ℕ
   pub trees : List ℕ
   pub seed : ℕ
@@ -20,7 +20,7 @@ pub record Replaying : Type 0 where
   pub trace : List ℕ
 
 pub data Command : Type 0 where
-  make_serial : Making → Command
+  make_serial : MakingSerial → Command
   replay : Replaying → Command
 
 -- the word is an option, which no command takes
@@ -53,7 +53,7 @@ seed_of word =
     then Some (value_behind 0 word) else None
 
 -- JOB TREES SEED ELF ORDER TRACE
-abbrev pub making_of : List (List ℕ) → Option Making
+abbrev pub making_of : List (List ℕ) → Option MakingSerial
 making_of (job ∷ trees ∷ seed_word ∷ elf ∷ order ∷ trace ∷ []) = do
   seed ← seed_of seed_word
   if are_files (job ∷ trees ∷ elf ∷ order ∷ trace ∷ [])

@@ -2,7 +2,7 @@ ghost use Rattle.std.specs.Prelude.{◌≡◌, ◌≤◌, map, option_map, Some,
 ghost use Rattle.forge.specs.Words as Words;
 ghost use Rattle.forge.specs.Ends.{Unchanged, Causes};
 ghost use Rattle.forge.specs.Stops.{ending_of, WhereTold, IsContent, IsReadFor, AreRead, IsStoppedRead, IsStoppedWrite};
-ghost use Rattle.store_face.specs.Calls.{KeepsOthers};
+ghost use Rattle.store_face.specs.Calls.{KeepsAllBut};
 
 use crate::stop::Stop;
 use std::alloc::Global;
@@ -63,7 +63,7 @@ pub(crate) fn write_output<'a, S: Store>(
     name: &'a str,
     bytes: &[u8],
 ) -> Result<(), Stop<'a>>
-    ensures others { KeepsOthers name.entry.now (S.state store.old).holds (S.state store.new).holds }
+    ensures others { KeepsAllBut name.entry.now (S.state store.old).holds (S.state store.new).holds }
     ensures counts_up { (S.state store.old).write_faults ≤ (S.state store.new).write_faults }
     ensures written { OnOk result (WhereTold (S.state store.new) (λ held. held name.entry.now ≡ Some bytes.now)) }
     ensures stopped { IfErr result (λ stop. IsStoppedWrite name.entry.now (S.state store.old) (S.state store.new) (ending_of stop)) }

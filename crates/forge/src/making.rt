@@ -7,7 +7,7 @@ ghost use Rattle.trace_text.specs.Views.{line_seen, lines_seen};
 ghost use Rattle.world_face.specs.Events as events;
 ghost use Rattle.hart_task.specs.Log.{log_seen};
 ghost use Rattle.hart_task.specs.Logs.{AreLogsOf};
-ghost use Rattle.forge.specs.Generated.{AreFilesOf, IsRunOf, IsCountOf, is_step, is_done, is_refused, listed, drawn};
+ghost use Rattle.forge.specs.Generated.{AreFilesOf, IsRunOf, IsCountOf, is_step, tells_done, tells_refused, listed, drawn};
 
 use crate::made::{Counts, Made};
 use choice_tree::Trees;
@@ -102,14 +102,14 @@ fn is_step(line: &Line) -> bool
 
 /// Whether the line tells that a request is done.
 fn is_done(line: &Line) -> bool
-    ensures { result ≡ is_done (line_seen line.now) }
+    ensures { result ≡ tells_done (line_seen line.now) }
 {
     matches!(line, Line::D { .. })
 }
 
 /// Whether the line tells that a request is refused.
 fn is_refused(line: &Line) -> bool
-    ensures { result ≡ is_refused (line_seen line.now) }
+    ensures { result ≡ tells_refused (line_seen line.now) }
 {
     matches!(line, Line::R { .. })
 }

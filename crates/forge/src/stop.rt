@@ -11,7 +11,8 @@ use store_face::StoreFault;
 use trace_fields::LineFault;
 
 /// The line that names the commands, also those that are to come, without its newline.
-pub(crate) const USAGE: &str = "usage: make|make-serial JOB TREES SEED ELF ORDER TRACE; replay ELF ORDER TRACE; big N JOB TREES; check JOB TREES";
+pub(crate) const USAGE: &str =
+    "usage: make|make-serial JOB TREES SEED ELF ORDER TRACE; replay ELF ORDER TRACE; big N JOB TREES; check JOB TREES";
 
 /// Why a file isn't accepted.
 #[derive(Clone, Copy, Debug, PartialEq, Eq)]

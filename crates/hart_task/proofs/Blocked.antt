@@ -23,7 +23,7 @@ use Rattle.trace_text.specs.Lines.{Line, done, effects_of, ending, made, request
 use Rattle.world_face.specs.Events.{Event}
 use Rattle.world_face.specs.Runs.{Runs}
 use Rattle.world_face.specs.Told.{Run}
-use Rattle.hart_task.specs.Acts.{Fixing, begins, event_of, fixing_lines, is_last, is_made, lines_of, request_kind, steps}
+use Rattle.hart_task.specs.Acts.{Fixing, act_lines, begins, event_of, fixing_lines, is_last, is_made, request_kind, steps}
 use Rattle.hart_task.specs.Blocks.{AreBlocks, IsBlock, IsInner, Meets, is_met}
 use Rattle.hart_task.specs.Heard.{Heard, heard_of}
 use Rattle.hart_task.specs.OneRun.{IsAtEnd, IsFinishedRun, all_lines}
@@ -143,10 +143,10 @@ makes_it work h k item rest items s heard t at low few makeable e =
 -- ---- the lines of a block
 
 begun_lines : (work : Work) (h k : ℕ) (r : Request) → IsMakeableRequest r
-    → lines_of work h (begins (record { k = k; request = r; pick = None; settle = None; short = None }) None []) ≡ request h k (request_kind r) ∷ []
+    → act_lines work h (begins (record { k = k; request = r; pick = None; settle = None; short = None }) None []) ≡ request h k (request_kind r) ∷ []
 begun_lines work h k r makeable = of r (known r makeable)
   where
-    of : (r : Request) → IsKnown r → lines_of work h (begins (record { k = k; request = r; pick = None; settle = None; short = None }) None []) ≡ request h k (request_kind r) ∷ []
+    of : (r : Request) → IsKnown r → act_lines work h (begins (record { k = k; request = r; pick = None; settle = None; short = None }) None []) ≡ request h k (request_kind r) ∷ []
     of r (is_pinned_ins ins rd rs1 rs2 imm pinned) = refl
 
 -- what is fixed before a step, and lines behind
@@ -193,7 +193,7 @@ end_jumps = refl
 pub record EndsIt (work : Work) (h : ℕ) (t : Turned) : Type 0 where
   pub e : Effect
   pub has : e.word ≡ Some end_word
-  pub lines : lines_of work h t.act ≡ ending e ∷ []
+  pub lines : act_lines work h t.act ≡ ending e ∷ []
   pub phase : t.state.phase ≡ at_end
 
 -- the ending step's lines are its own line alone
@@ -240,7 +240,7 @@ begins_there work h k item rest s e keeps member room makeable at does =
     let early : index_of work s ≤ 999 = omega (arith, index, room) in
     let this = did_this work s e _ does (begins_is work s (heard_of e) item rest keeps member_is at.phase at.loop at.left makeable few early) in (
       ap (λ (q : Event). q.lines) this.0
-          ∙ (λ i. lines_of work (at.number i) (begins (record { k = at.count i; request = item.request; pick = None; settle = None; short = None }) None []))
+          ∙ (λ i. act_lines work (at.number i) (begins (record { k = at.count i; request = item.request; pick = None; settle = None; short = None }) None []))
           ∙ begun_lines work h k item.request makeable.0,
       this.1,
     )
@@ -257,7 +257,7 @@ block_by : (work : Work) (h k : ℕ) (item : ScriptItem) (rest : List ScriptItem
     → (o : Did work s f) → MakesIt work h k item rest o.t → BlockStep work h k item rest f (acted work s f)
 block_by work h k item rest s f number o makes = record {
   x = makes.x;
-  lines = ap (λ (q : Event). q.lines) o.event ∙ ap (λ n. lines_of work n o.t.act) number ∙ ap (lines_of work h) makes.act;
+  lines = ap (λ (q : Event). q.lines) o.event ∙ ap (λ n. act_lines work n o.t.act) number ∙ ap (act_lines work h) makes.act;
   has = makes.has;
   quiet = makes.quiet;
   next = subst (IsBetween work h (k + 1) rest) (sym o.state) makes.next;
@@ -277,7 +277,7 @@ blocks_from work h k [] before s (e ∷ es) end keeps member room each at run en
     let o = did work s e run.0 in
     let x = ends_it work h k s (heard_of e) o.t at o.turns in
     let none : es ≡ [] = none_behind work (acted work s e) es end (ap (λ (q : HartState). q.phase) o.state ∙ x.phase) run.1 in
-    let lines : e.lines ≡ ending x.e ∷ [] = ap (λ (q : Event). q.lines) o.event ∙ ap (λ n. lines_of work n o.t.act) at.number ∙ x.lines in
+    let lines : e.lines ≡ ending x.e ∷ [] = ap (λ (q : Event). q.lines) o.event ∙ ap (λ n. act_lines work n o.t.act) at.number ∙ x.lines in
     (x.e, x.has, λ i. lines i ++ all_lines (none i))
 blocks_from work h k (item ∷ rest) before s [] end keeps member room each at run ends = absurd (subst IsAtEnd (ap (λ (q : HartState). q.phase) run ∙ at.phase) ends)
 blocks_from work h k (item ∷ rest) before s (e ∷ []) end keeps member room each at run ends =

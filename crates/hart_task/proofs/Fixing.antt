@@ -9,7 +9,7 @@ use Rattle.choice_tree.specs.Draws.{Draws, next_word, skipped}
 use Rattle.hart_task.specs.Acts.{Fixing, fixing_lines}
 use Rattle.hart_task.specs.Stepping.{fixed_in, late_registers}
 use Rattle.world_face.specs.declared.event.Event as code
-use Rattle.world_face.specs.Views.{HasRoom}
+use Rattle.world_face.specs.Views.{HasRoomForLines}
 use Rattle.hart_task.specs.Task.{TaskSeen, fixed_task, late_of, late_one}
 
 -- those of the registers that are untouched
@@ -84,7 +84,7 @@ lines_told t first ops d is same row =
     ∙ both_told t d t.hart.number row
 
 -- room for some lines is room for fewer
-pub less_room : (event : code.Event) (count fewer : ℕ) → fewer ≤ count → HasRoom count event → HasRoom fewer event
+pub less_room : (event : code.Event) (count fewer : ℕ) → fewer ≤ count → HasRoomForLines count event → HasRoomForLines fewer event
 less_room event count fewer less room = omega (arith, less, room)
 
 -- no more than one is fixed

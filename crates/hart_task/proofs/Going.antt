@@ -5,7 +5,7 @@ use Rattle.std.specs.Option.{option_or, option_map_or}
 use Rattle.rv_fields.specs.Decode.{Decoded, decoded}
 use Rattle.rv_fields.specs.Effect.{Effect}
 use Rattle.rv_fields.specs.Hart.{Hart, updated}
-use Rattle.rv_fields.specs.Laws.{Below, DidSame, Extends, Leaves, names_open_in, opened}
+use Rattle.rv_fields.specs.Laws.{Below, DidSame, Extends, StepLeaves, names_open_in, opened}
 use Rattle.rv_fields.specs.Memory.{Seen}
 use Rattle.rv_fields.specs.Step.{Stepped, step, with_write}
 use Rattle.rv_fields.specs.declared.access.Accessed.{Accessed}
@@ -163,7 +163,7 @@ goes work begin first now s heard t hart over more did has =
     let done : Stepped = record { effect = t.effect; hart = did.after } in
     let same : DidSame whole done (step now (opened whole over.c over.t s.hart)) =
     more_told_open (seen_of work s heard) now more whole over.c over.t (record s.hart { x = part }) (laid_below part begin.x whole lies) done (kept_open t.effect did.keeps) did.steps in
-    let left : Leaves (record s.hart { x = part }) done = step_leaves (seen_of work s heard) (record s.hart { x = part }) done did.steps in
+    let left : StepLeaves (record s.hart { x = part }) done = step_leaves (seen_of work s heard) (record s.hart { x = part }) done did.steps in
     let registers : (r : ℕ) → with_write whole t.effect.rd r ≡ laid did.after.x begin.x r =
     λ r. ap (λ f. with_write f t.effect.rd r) (λ i. λ q. sym (lies q) i) ∙ with_rd_laid part begin.x t.effect.rd r ∙ ap (λ f. laid f begin.x r) (sym left.registers) in
     record {

@@ -18,7 +18,7 @@ use Rattle.trace_fields.proofs.Joins.{all_append}
 use Rattle.world_face.specs.Events.{Event, Settle, Wanted, no_parts}
 use Rattle.world_face.specs.Runs.{Runs}
 use Rattle.world_face.specs.Told.{Weighing}
-use Rattle.hart_task.specs.Acts.{Act, Begun, Came, Fixing, Picking, answers, begin_lines, begins, fixing_lines, gives_up, is_found, is_last, is_made, lines_of, parts_of, pick_lines, refuses, step_line, steps, tree_name, weighing_lines, weighing_of}
+use Rattle.hart_task.specs.Acts.{Act, Begun, Came, Fixing, Picking, act_lines, answers, begin_lines, begins, fixing_lines, gives_up, is_found, is_last, is_made, parts_of, pick_lines, refuses, step_line, steps, tree_name, weighing_lines, weighing_of}
 use Rattle.hart_task.specs.Heard.{Heard, heard_of}
 use Rattle.hart_task.specs.OneRun.{RunsTo, all_lines}
 use Rattle.hart_task.specs.State.{HartState, start}
@@ -284,7 +284,7 @@ tail_quiet h came e ends is = (of came, at ends)
 -- ---- all acts
 
 act_tells : (work : Work) (s : HartState) (heard : Heard) (act : Act) (u : HartState) → View work s heard act u → parts_of work s.hart.number act ≡ no_parts
-    → Tells s.hart.number s.hart.x u.hart.x (lines_of work s.hart.number act) × (u.hart.number ≡ s.hart.number)
+    → Tells s.hart.number s.hart.x u.hart.x (act_lines work s.hart.number act) × (u.hart.number ≡ s.hart.number)
 act_tells work s heard (refuses b cause) u view parts = (
   tells s.hart.number s.hart.x u.hart.x (begin_lines work s.hart.number b) [] (refused s.hart.number b.k cause 0 ∷ []) (begin_quiet work s.hart.number b) (refl, tt) tt tt
       (λ r none. ap (λ (q : Hart). q.x r) (sym view.hart) ∙ none),

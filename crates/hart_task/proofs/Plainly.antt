@@ -23,7 +23,7 @@ use Rattle.rv_fields.proofs.Told.{told_word}
 use Rattle.rv_fields.specs.declared.class.Class.TheVariants.{Computes}
 use Rattle.hart_task.specs.Turn.{end_word}
 use Rattle.hart_task.specs.Bus.{word_seen}
-use Rattle.rv_step.specs.Frames.{HasRoom, HasRoomForStep}
+use Rattle.rv_step.specs.Frames.{HasRoomForAccess, HasRoomForStep}
 use Rattle.hart_task.specs.Plain.{IsPlainFor, StepsPlainly, plain_effect}
 
 -- ---- a word alone in memory is told
@@ -165,7 +165,7 @@ plain_told hart word p = subst IsSome (sym p.steps) refl
 
 pub plain_room : (room : ℕ → Type 0) (hart : Hart) (word : ℕ) → StepsPlainly hart word → HasRoomForStep room (step (word_seen hart.pc word) hart)
 plain_room room hart word p =
-    subst (HasRoomForStep room) (sym p.steps) (subst (HasRoom room) (sym (ap (λ (e : Effect). e.access) p.plain)) tt)
+    subst (HasRoomForStep room) (sym p.steps) (subst (HasRoomForAccess room) (sym (ap (λ (e : Effect). e.access) p.plain)) tt)
 
 pub plain_is : (hart : Hart) (word : ℕ) (s : Stepped) → StepsPlainly hart word → step (word_seen hart.pc word) hart ≡ Some s
     → s.effect ≡ plain_effect hart word s.effect.rd

@@ -12,7 +12,7 @@ use Rattle.region_plan.specs.Plan.{Work, plan_of}
 use Rattle.region_plan.specs.Request.{MemRequest, Plain, Quiet, Request, a_csr, a_jump, a_loop, a_mem, a_pick, a_plain, a_set, a_sys, a_value, an_ins, no_arms}
 use Rattle.region_plan.specs.Script.{ScriptItem, script_for}
 use Rattle.operand_solver.specs.Operands.{Operand, behind_operand, value_of_operand}
-use Rattle.place_solver.specs.Placing.{Placed, base_of, narrowed, near, placed, placed_at}
+use Rattle.place_solver.specs.Placing.{PlacedAccess, base_of, narrowed, near, placed_access, placed_at}
 use Rattle.table_space.specs.Tables.{with_entries}
 use Rattle.trace_fields.specs.declared.request.Cause.{Cause}
 use Rattle.world_face.specs.Events.{Settle, Short, Wanted}
@@ -21,7 +21,7 @@ use Rattle.hart_task.specs.Beginning.{Prepared, cause_of, ins_by, is_late, makes
 use Rattle.hart_task.specs.Heard.{Heard}
 use Rattle.hart_task.specs.State.{HartState, Loop, Making, Phase, Sequel, Until, WantedLoad, at_end, between, counter_of, enters, finding, is_done, making, reaches, turns, wants}
 use Rattle.hart_task.specs.Stepping.{StepTaken, stepped}
-use Rattle.hart_task.specs.Turn.{Next, Turned, asked_settle, at_rest, begun, begun_turn, demand_of, done_turn, end_word, fixed_by, is_out, last_turn, made_step, made_turn, meets, next_in_body, next_of, next_turn, noting, out_or_on, picked_leaf, placed_turn, reads_wanted, rest_in_loop, step_turn, turned, turned_in, wanted_number, wanted_turn, with_draws, with_pick}
+use Rattle.hart_task.specs.Turn.{Next, Turned, asked_settle, at_rest, begun, begun_turn, demand_of, done_turn, end_word, is_out, last_turn, made_step, made_turn, meets, next_in_body, next_of, next_turn, noting, out_or_on, picked_leaf, placed_turn, reads_wanted, rest_in_loop, step_turn, turned, turned_in, wanted_number, wanted_turn, with_draws, with_fixing, with_pick}
 
 pub record Keeps (s u : HartState) : Type 0 where
   pub hart : u.hart ≡ s.hart
@@ -154,7 +154,7 @@ made_view work s heard m (word ∷ next ∷ words) t e =
 -- ---- a request that begins
 
 -- a base is fixed only where it had no value
-record Based (value : Option ℕ) (base : ℕ) (p : Placed) : Type 0 where
+record Based (value : Option ℕ) (base : ℕ) (p : PlacedAccess) : Type 0 where
   late : p.fixes ≡ true → value ≡ None
   rs1 : p.ops.rs1 ≡ base
 
@@ -162,7 +162,7 @@ is_nothing : {A : Type 0} (m : Option A) (b : Bool) → (is_none m && b) ≡ tru
 is_nothing None b e = refl
 is_nothing (Some a) b e = absurd cc
 
-based_if : (value : Option ℕ) (base : ℕ) (b : Bool) (p q : Placed) → Based value base p → Based value base q → Based value base (cond b p q)
+based_if : (value : Option ℕ) (base : ℕ) (b : Bool) (p q : PlacedAccess) → Based value base p → Based value base q → Based value base (cond b p q)
 based_if value base true p q h k = h
 based_if value base false p q h k = k
 
@@ -171,7 +171,7 @@ based_at work h ins r value preamble base draws =
     based_if value base (is_some r.want) _ _ (record { late = is_nothing value (not preamble); rs1 = refl })
     (based_if value base (preamble || is_none value) _ _ (record { late = is_nothing value (not preamble); rs1 = refl }) (record { late = λ e. absurd cc; rs1 = refl }))
 
-mem_late : (x : ℕ → Option ℕ) (r : MemRequest) (ins : Ins) (p : Placed) (base : ℕ) → Based (x base) base p → (f : Fixing) → (mem_prepared r ins p).fixes ≡ Some f → x f.register ≡ None
+mem_late : (x : ℕ → Option ℕ) (r : MemRequest) (ins : Ins) (p : PlacedAccess) (base : ℕ) → Based (x base) base p → (f : Fixing) → (mem_prepared r ins p).fixes ≡ Some f → x f.register ≡ None
 mem_late x r ins p base based f e = of p.fixes refl e
   where
     of : (b : Bool) → b ≡ p.fixes → cond b (Some (record { register = p.ops.rs1; value = p.base_value })) None ≡ Some f → x f.register ≡ None
@@ -191,13 +191,13 @@ value_late s value register left f e = of (is_none s.loop) (s.hart.x register) r
     of false m is e = absurd cc
 
 placed_late : (work : Work) (h : ℕ) (ins : Ins) (r : MemRequest) (counter : Option ℕ) (x : ℕ → Option ℕ) (draws : Draws) (f : Fixing)
-    → (mem_prepared r ins (placed work h ins r counter x draws)).fixes ≡ Some f → x f.register ≡ None
+    → (mem_prepared r ins (placed_access work h ins r counter x draws)).fixes ≡ Some f → x f.register ≡ None
 placed_late work h ins r counter x draws f e =
     let close = near work h ins r counter x in
     let base : Operand = narrowed (base_of r counter) close in
     let v : ℕ = value_of_operand draws base in
     let b = based_at work h ins r (x v) (length close == 0) v (behind_operand draws base) in
-    mem_late x r ins (placed work h ins r counter x draws) v (record { late = b.late; rs1 = b.rs1 }) f e
+    mem_late x r ins (placed_access work h ins r counter x draws) v (record { late = b.late; rs1 = b.rs1 }) f e
 
 plain_late : (work : Work) (s : HartState) (p : Plain) (leaf : Option Name) (f : Fixing) → (plain_prepared work s p leaf).fixes ≡ Some f → s.hart.x f.register ≡ None
 plain_late work s (an_ins ins pins) leaf f e = absurd cc
@@ -267,7 +267,7 @@ record Noted (s : HartState) (fixing : Option Fixing) (settle : Option Settle) (
   words : u.words ≡ s.words
   entries : u.entries ≡ entries_noted settle s.entries
 
-noted : (s u : HartState) (fixing : Option Fixing) (settle : Option Settle) → Keeps s u → Noted s fixing settle (noting settle (fixed_by fixing u))
+noted : (s u : HartState) (fixing : Option Fixing) (settle : Option Settle) → Keeps s u → Noted s fixing settle (noting settle (with_fixing fixing u))
 noted s u None None k = record { hart = k.hart; words = k.words; entries = k.entries }
 noted s u None (Some t) k = record { hart = k.hart; words = k.words; entries = ap (λ e. with_entries e t.path) k.entries }
 noted s u (Some f) None k = record { hart = ap (hart_fixed (Some f)) k.hart; words = k.words; entries = k.entries }
@@ -279,7 +279,7 @@ begun_view : (work : Work) (s : HartState) (heard : Heard) (n : Next) (p : Prepa
 begun_view work s heard n p (Some cause) is b request_is settle_is short_is u keeps = then_keeps s u (at_rest work u) keeps (keeps_at_rest work u)
 begun_view work s heard n p None is b request_is settle_is short_is u keeps = of (words_needed p == 0)
   where
-    marks : Noted s p.fixes b.settle (noting b.settle (fixed_by p.fixes u))
+    marks : Noted s p.fixes b.settle (noting b.settle (with_fixing p.fixes u))
     marks = noted s u p.fixes b.settle keeps
 
     late : (f : Fixing) → p.fixes ≡ Some f → s.hart.x f.register ≡ None
@@ -304,15 +304,15 @@ begun_view work s heard n p None is b request_is settle_is short_is u keeps = of
             let a = some_is p.settles _ settle e in
             inr (ap (λ (k : Settle). k.path) (sym a.1) ∙ ap (λ (m : Option Short). cond (is_some m) [] (option_map_or (λ (t : Settle). t.path) heard.settle [])) (sym is))
 
-    begins_so : (v : HartState) → Keeps (noting b.settle (fixed_by p.fixes u)) v → Begins work s b p.fixes v
+    begins_so : (v : HartState) → Keeps (noting b.settle (with_fixing p.fixes u)) v → Begins work s b p.fixes v
     begins_so v k = record { hart = k.hart ∙ marks.hart; words = k.words ∙ marks.words; entries = k.entries ∙ marks.entries; late = late; memory = memory; short = short }
 
     of : (t : Bool) → let q : Turned = cond {A = Turned} t
-        (record { act = answers b p.fixes; state = at_rest work (record (noting b.settle (fixed_by p.fixes u)) { left = script_for n.entry.arms (picked_leaf b.pick) ++ (noting b.settle (fixed_by p.fixes u)).left }) })
-        (record { act = begins b p.fixes (cond (is_some b.settle) heard.told []); state = record (noting b.settle (fixed_by p.fixes u)) { phase = making (record { k = b.k; words = p.words; sequel = p.sequel }) } })
+        (record { act = answers b p.fixes; state = at_rest work (record (noting b.settle (with_fixing p.fixes u)) { left = script_for n.entry.arms (picked_leaf b.pick) ++ (noting b.settle (with_fixing p.fixes u)).left }) })
+        (record { act = begins b p.fixes (cond (is_some b.settle) heard.told []); state = record (noting b.settle (with_fixing p.fixes u)) { phase = making (record { k = b.k; words = p.words; sequel = p.sequel }) } })
         in View work s heard q.act q.state
-    of true = begins_so (at_rest work (record (noting b.settle (fixed_by p.fixes u)) { left = script_for n.entry.arms (picked_leaf b.pick) ++ (noting b.settle (fixed_by p.fixes u)).left })) (then_keeps (noting b.settle (fixed_by p.fixes u)) (record (noting b.settle (fixed_by p.fixes u)) { left = script_for n.entry.arms (picked_leaf b.pick) ++ (noting b.settle (fixed_by p.fixes u)).left }) (at_rest work (record (noting b.settle (fixed_by p.fixes u)) { left = script_for n.entry.arms (picked_leaf b.pick) ++ (noting b.settle (fixed_by p.fixes u)).left })) (record { hart = refl; words = refl; entries = refl }) (keeps_at_rest work (record (noting b.settle (fixed_by p.fixes u)) { left = script_for n.entry.arms (picked_leaf b.pick) ++ (noting b.settle (fixed_by p.fixes u)).left })))
-    of false = (begins_so (record (noting b.settle (fixed_by p.fixes u)) { phase = making (record { k = b.k; words = p.words; sequel = p.sequel }) }) (record { hart = refl; words = refl; entries = refl }), refl)
+    of true = begins_so (at_rest work (record (noting b.settle (with_fixing p.fixes u)) { left = script_for n.entry.arms (picked_leaf b.pick) ++ (noting b.settle (with_fixing p.fixes u)).left })) (then_keeps (noting b.settle (with_fixing p.fixes u)) (record (noting b.settle (with_fixing p.fixes u)) { left = script_for n.entry.arms (picked_leaf b.pick) ++ (noting b.settle (with_fixing p.fixes u)).left }) (at_rest work (record (noting b.settle (with_fixing p.fixes u)) { left = script_for n.entry.arms (picked_leaf b.pick) ++ (noting b.settle (with_fixing p.fixes u)).left })) (record { hart = refl; words = refl; entries = refl }) (keeps_at_rest work (record (noting b.settle (with_fixing p.fixes u)) { left = script_for n.entry.arms (picked_leaf b.pick) ++ (noting b.settle (with_fixing p.fixes u)).left })))
+    of false = (begins_so (record (noting b.settle (with_fixing p.fixes u)) { phase = making (record { k = b.k; words = p.words; sequel = p.sequel }) }) (record { hart = refl; words = refl; entries = refl }), refl)
 
 next_view : (work : Work) (s : HartState) (heard : Heard) (n : Option Next) (t : Turned) → n ≡ next_of s s.loop s.left → next_turn work s heard n ≡ Some t → View work s heard t.act t.state
 next_view work s heard (Some n) t is e =

@@ -15,7 +15,7 @@ use Rattle.trace_text.specs.Lines.{Line, done, effects_of, ending, fixed, found,
 use Rattle.world_face.specs.Events.{Event}
 use Rattle.world_face.specs.Runs.{Runs}
 use Rattle.world_face.specs.Told.{Run}
-use Rattle.hart_task.specs.Acts.{Act, Came, Fixing, Stepping, answers, begins, fixing_lines, gives_up, is_found, is_last, is_made, lines_of, refuses, step_line, steps}
+use Rattle.hart_task.specs.Acts.{Act, Came, Fixing, Stepping, act_lines, answers, begins, fixing_lines, gives_up, is_found, is_last, is_made, refuses, step_line, steps}
 use Rattle.hart_task.specs.Blocks.{made_by}
 use Rattle.hart_task.specs.Heard.{Heard, heard_of}
 use Rattle.hart_task.specs.OneRun.{RunsTo, all_lines}
@@ -86,7 +86,7 @@ step_made is_made e = e ∷ []
 step_made is_found e = []
 step_made is_last e = e ∷ []
 
-lines_made : (work : Work) (h : ℕ) (x : Stepping) → made_of (lines_of work h (steps x)) ≡ step_made x.came x.effect
+lines_made : (work : Work) (h : ℕ) (x : Stepping) → made_of (act_lines work h (steps x)) ≡ step_made x.came x.effect
 lines_made work h x = fixed_made h x.registers _ ∙ touched_made h x.bytes _ ∙ of x.came x.ends
   where
     of : (came : Came) (ends : Option ℕ) → made_of (step_line came x.effect ∷ option_map_or (λ (k : ℕ). done h k ∷ []) ends []) ≡ step_made came x.effect
@@ -125,13 +125,13 @@ step_makes is_found work s heard t from =
     }
 
 act_makes : (work : Work) (s : HartState) (e : Event) (act : Act) (u : HartState) → View work s (heard_of e) act u
-    → Makes s.hart.number s.words u.words (made_of (lines_of work s.hart.number act)) × (u.hart.number ≡ s.hart.number)
-act_makes work s e (refuses b cause) u view = (no_word (made_none (lines_of work s.hart.number (refuses b cause)) (refuses_effects work s.hart.number b cause)) view.words, ap (λ (q : Hart). q.number) view.hart)
+    → Makes s.hart.number s.words u.words (made_of (act_lines work s.hart.number act)) × (u.hart.number ≡ s.hart.number)
+act_makes work s e (refuses b cause) u view = (no_word (made_none (act_lines work s.hart.number (refuses b cause)) (refuses_effects work s.hart.number b cause)) view.words, ap (λ (q : Hart). q.number) view.hart)
 act_makes work s e (answers b fixing) u view =
-    (no_word (made_none (lines_of work s.hart.number (answers b fixing)) (answers_effects work s.hart.number b fixing)) view.words, ap (λ (q : Hart). q.number) view.hart ∙ same_number fixing s.hart)
+    (no_word (made_none (act_lines work s.hart.number (answers b fixing)) (answers_effects work s.hart.number b fixing)) view.words, ap (λ (q : Hart). q.number) view.hart ∙ same_number fixing s.hart)
 act_makes work s e (begins b fixing told) u view =
     let silent : effects_of told ≡ [] = ap effects_of view.1 ∙ of (is_some b.settle) in
-    (no_word (made_none (lines_of work s.hart.number (begins b fixing told)) (begins_effects work s.hart.number b fixing told silent)) view.0.words, ap (λ (q : Hart). q.number) view.0.hart ∙ same_number fixing s.hart)
+    (no_word (made_none (act_lines work s.hart.number (begins b fixing told)) (begins_effects work s.hart.number b fixing told silent)) view.0.words, ap (λ (q : Hart). q.number) view.0.hart ∙ same_number fixing s.hart)
   where
     of : (t : Bool) → effects_of (cond t (heard_of e).told []) ≡ []
     of true = told_silent e
@@ -140,8 +140,8 @@ act_makes work s e (gives_up k preamble wanted) u view = (no_word refl view.word
 act_makes work s e (steps x) u view =
     let m = step_makes x.came work s (heard_of e) view.0 view.2 in
     let words : u.words ≡ view.0.state.words = ap (λ (q : HartState). q.words) view.7 ∙ view.8.words in
-    let told : made_of (lines_of work s.hart.number (steps x)) ≡ step_made x.came view.0.effect = lines_made work s.hart.number x ∙ ap (step_made x.came) view.5 in (
-      subst (λ w. Makes s.hart.number s.words w (made_of (lines_of work s.hart.number (steps x)))) (sym words) (subst (Makes s.hart.number s.words view.0.state.words) (sym told) m.makes),
+    let told : made_of (act_lines work s.hart.number (steps x)) ≡ step_made x.came view.0.effect = lines_made work s.hart.number x ∙ ap (step_made x.came) view.5 in (
+      subst (λ w. Makes s.hart.number s.words w (made_of (act_lines work s.hart.number (steps x)))) (sym words) (subst (Makes s.hart.number s.words view.0.state.words) (sym told) m.makes),
       ap (λ (q : HartState). q.hart.number) view.7 ∙ ap (λ (q : Hart). q.number) view.8.hart ∙ m.number,
     )
 

@@ -112,12 +112,12 @@ abbrev pub step_lines : ℕ → Stepping → List Line
 step_lines h s = fixing_lines h s.registers ++ (map (λ (r : Run). touched h r.at r.bytes) s.bytes ++ (step_line s.came s.effect
     ∷ option_map_or (λ (k : ℕ). done h k ∷ []) s.ends []))
 
-abbrev pub lines_of : Work → ℕ → Act → List Line
-lines_of work h (refuses b cause) = begin_lines work h b ++ (refused h b.k cause 0 ∷ [])
-lines_of work h (answers b fixing) = begin_lines work h b ++ (fixing_lines h (option_to_list fixing) ++ (done h b.k ∷ []))
-lines_of work h (begins b fixing told) = begin_lines work h b ++ (fixing_lines h (option_to_list fixing) ++ told)
-lines_of work h (steps s) = step_lines h s
-lines_of work h (gives_up k preamble wanted) = refused h k NoPlace preamble ∷ []
+abbrev pub act_lines : Work → ℕ → Act → List Line
+act_lines work h (refuses b cause) = begin_lines work h b ++ (refused h b.k cause 0 ∷ [])
+act_lines work h (answers b fixing) = begin_lines work h b ++ (fixing_lines h (option_to_list fixing) ++ (done h b.k ∷ []))
+act_lines work h (begins b fixing told) = begin_lines work h b ++ (fixing_lines h (option_to_list fixing) ++ told)
+act_lines work h (steps s) = step_lines h s
+act_lines work h (gives_up k preamble wanted) = refused h k NoPlace preamble ∷ []
 
 abbrev pub is_plain_memory : Plain → Bool
 is_plain_memory (an_ins ins pins) = false
@@ -168,4 +168,4 @@ asked_of (steps s) = record nothing_asked { wanted = s.wanted; probe = s.probe }
 asked_of (gives_up k preamble wanted) = record nothing_asked { wanted = Some wanted }
 
 abbrev pub event_of : Work → ℕ → Act → Event
-event_of work h act = record { hart = h; parts = parts_of work h act; asked = asked_of act; lines = lines_of work h act }
+event_of work h act = record { hart = h; parts = parts_of work h act; asked = asked_of act; lines = act_lines work h act }

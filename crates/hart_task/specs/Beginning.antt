@@ -8,7 +8,7 @@ use Rattle.hart_task.specs.Acts.{Fixing}
 use Rattle.hart_task.specs.Heard.{Heard}
 use Rattle.hart_task.specs.State.{HartState, Sequel, counter_of, enters, index_of, is_done, turns, wants}
 use Rattle.operand_solver.specs.Operands.{Operand, allowed, behind_operand, operand, operands_drawn, registers_of, serve, value_of_operand}
-use Rattle.place_solver.specs.Placing.{Placed, candidates, count, placed, serves_mem}
+use Rattle.place_solver.specs.Placing.{PlacedAccess, candidates, count, placed_access, serves_mem}
 use Rattle.place_solver.specs.Targets.{Targeted, has_no_target, jump_registers, jump_words, targeted}
 use Rattle.region_plan.specs.Plan.{Region, Work, object_page, page_of, region_at, regions_of}
 use Rattle.region_plan.specs.Request.{Demand, InsChoice, JumpRequest, MemRequest, Misaligned, PageFault, Pins, Plain, Quiet, Request, SysWord, a_csr, a_jump, a_loop, a_mem, a_pick, a_plain, a_set, a_sys, a_value, an_ins, by_tree, named_ins, sys_ebreak, sys_ecall, sys_mret, sys_sfence, sys_sret, sys_zero}
@@ -86,7 +86,7 @@ abbrev pub jump_prepared : JumpRequest → Ins → Targeted → Prepared
 jump_prepared r ins t =
     makes ((if nat_lt 1 (jump_words ins) then li t.ops.rs1 t.base_value else []) ++ word_by ins t.ops ∷ []) (Some r.demand) t.left
 
-abbrev pub preamble_of : Placed → List ℕ
+abbrev pub preamble_of : PlacedAccess → List ℕ
 preamble_of p = if p.preamble then li p.ops.rs1 p.base_value else []
 
 -- a misaligned address is never translated, and neither is one whose high bits aren't copies of bit 38
@@ -95,7 +95,7 @@ is_settling Quiet address = is_canonical address
 is_settling PageFault address = is_canonical address
 is_settling Misaligned address = false
 
-abbrev pub mem_prepared : MemRequest → Ins → Placed → Prepared
+abbrev pub mem_prepared : MemRequest → Ins → PlacedAccess → Prepared
 mem_prepared r ins p = record {
   fixes = if p.fixes then Some (record { register = p.ops.rs1; value = p.base_value }) else None;
   words = preamble_of p ++ (if is_some r.want then [] else word_by ins p.ops ∷ []);
@@ -109,7 +109,7 @@ plain_prepared work s (an_ins ins pins) leaf =
     let d = operands_drawn (ins_by ins leaf) pins (counter_of s) s.draws in
     makes (word_by (ins_by ins leaf) d.ops ∷ []) (Some Quiet) d.left
 plain_prepared work s (a_mem r) leaf =
-    mem_prepared r (ins_by r.ins leaf) (placed work s.hart.number (ins_by r.ins leaf) r (counter_of s) s.hart.x s.draws)
+    mem_prepared r (ins_by r.ins leaf) (placed_access work s.hart.number (ins_by r.ins leaf) r (counter_of s) s.hart.x s.draws)
 plain_prepared work s (a_jump r) leaf =
     jump_prepared r (ins_by r.ins leaf) (targeted (ins_by r.ins leaf) r (counter_of s) (window_at work s.hart.number) (index_of work s) (window_words work s.hart.number) s.draws)
 plain_prepared work s (a_csr csr ins pins) leaf =

@@ -12,10 +12,10 @@ word_seen at word = record {
 }
 
 -- the one link stands, and no other is told
-abbrev pub links_seen : Option Link → Links
-links_seen None h g = None
-links_seen (Some l) h g = linked l.hart l.granule (λ h g. None) h g
+abbrev pub link_seen : Option Link → Links
+link_seen None h g = None
+link_seen (Some l) h g = linked l.hart l.granule (λ h g. None) h g
 
 -- no link is held yet, and no store there can change a byte
-abbrev pub HasLinkRoom : Option Link → ℕ → Type 0
-HasLinkRoom link at = IsNone link × ((size : ℕ) → in_ram at size ≡ false)
+abbrev pub HasRoomForLink : Option Link → ℕ → Type 0
+HasRoomForLink link at = IsNone link × ((size : ℕ) → in_ram at size ≡ false)

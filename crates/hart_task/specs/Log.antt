@@ -30,6 +30,6 @@ events_of placed = map (λ (p : Placed). p.event) placed
 abbrev pub HasRoomForEvent : HartLog → Type 0
 HasRoomForEvent log = vec_len log.events + 1 ≤ vec_capacity log.events
 
-pub record HasRoom (log : HartLog) : Type 0 where
+pub record HasLogRoom (log : HartLog) : Type 0 where
   pub for_event : HasRoomForEvent log
   pub for_word : vec_len log.words + 1 ≤ vec_capacity log.words

@@ -103,14 +103,14 @@ abbrev pub noting : Option Settle → HartState → HartState
 noting None s = s
 noting (Some settle) s = record s { entries = with_entries s.entries settle.path }
 
-abbrev pub fixed_by : Option Fixing → HartState → HartState
-fixed_by None s = s
-fixed_by (Some f) s = record s { hart = record s.hart { x = updated s.hart.x f.register (Some f.value) } }
+abbrev pub with_fixing : Option Fixing → HartState → HartState
+with_fixing None s = s
+with_fixing (Some f) s = record s { hart = record s.hart { x = updated s.hart.x f.register (Some f.value) } }
 
 -- It is refused, or done where it makes no word, or under way.
 abbrev pub begun_turn : Work → Heard → ScriptItem → Begun → Prepared → Option Cause → HartState → Turned
 begun_turn work heard entry b p (Some cause) s = record { act = refuses b cause; state = at_rest work s }
-begun_turn work heard entry b p None s = accepted_turn work heard entry b p (noting b.settle (fixed_by p.fixes s))
+begun_turn work heard entry b p None s = accepted_turn work heard entry b p (noting b.settle (with_fixing p.fixes s))
 
 abbrev pub begun : HartState → Heard → Request → Option Settle → Begun
 begun s heard r settle = record {

@@ -38,11 +38,11 @@ impl PteSource for OneWord {
 
 impl Bus for OneWord {
     ghost use Rattle.std.specs.Prelude.{refl};
-    ghost use Rattle.hart_task.specs.Bus.{word_seen, links_seen, HasLinkRoom};
+    ghost use Rattle.hart_task.specs.Bus.{word_seen, link_seen, HasRoomForLink};
 
-    ghost seen = { λ b. record { byte = (word_seen b.at b.word).byte; link = links_seen b.link } };
+    ghost seen = { λ b. record { byte = (word_seen b.at b.word).byte; link = link_seen b.link } };
 
-    ghost has_room = { λ b. λ pa. HasLinkRoom b.link pa };
+    ghost has_room = { λ b. λ pa. HasRoomForLink b.link pa };
 
     fn fetch(&self, pa: u64) -> Option<u32> {
         (pa == self.at).then_some(self.word)

@@ -19,12 +19,12 @@ pub struct HartLog {
 }
 
 impl HartLog {
-    ghost use Rattle.hart_task.specs.Log.{log_seen, HasRoom, HasRoomForEvent};
+    ghost use Rattle.hart_task.specs.Log.{log_seen, HasLogRoom, HasRoomForEvent};
     ghost use Rattle.world_face.specs.Views.{placed_seen};
 
     /// Makes room for an event, and for a word.
     pub(crate) fn reserve(&mut self) -> Result<(), NoMemory>
-        ensures room { OnOk result (HasRoom self.new) }
+        ensures room { OnOk result (HasLogRoom self.new) }
         ensures same { log_seen self.new ≡ log_seen self.old }
     {
         self.events.reserve(1)?;
@@ -42,7 +42,7 @@ impl HartLog {
 
     /// Adds a word that was made, for which there is room.
     pub(crate) fn add_word(&mut self, word: u32)
-        requires { HasRoom self.old }
+        requires { HasLogRoom self.old }
         ensures added { log_seen self.new ≡ record (log_seen self.old) { words = self.old.words.items ++ word ∷ [] } }
         ensures room { HasRoomForEvent self.new }
     {
@@ -53,7 +53,7 @@ impl HartLog {
     pub(crate) fn write(&mut self, rd: Option<(u8, u64)>)
         requires { IfSome rd (λ w. (0 < w.0) × (w.0 < 32)) }
         ensures written { log_seen self.new ≡ record (log_seen self.old) { present = with_write (present_of self.old.values) rd } }
-        ensures room { HasRoom self.old → HasRoom self.new }
+        ensures room { HasLogRoom self.old → HasLogRoom self.new }
     {
         if let Some((register, value)) = rd {
             self.values.write(register, value);

@@ -4,7 +4,7 @@ ghost use Rattle.rv_fields.specs.Step.{step};
 ghost use Rattle.region_plan.specs.Rules.{IsMakeableRequest};
 ghost use Rattle.region_plan.specs.Views.{request_seen};
 ghost use Rattle.trace_text.specs.Traces.{IsStep};
-ghost use Rattle.trace_text.specs.Views.{effect_seen};
+ghost use Rattle.trace_text.specs.Views.{step_seen};
 ghost use Rattle.rv_step.specs.Views.{hart_seen};
 ghost use Rattle.hart_task.specs.Asking.{ins_of, ops_asked, word_asked};
 ghost use Rattle.hart_task.specs.Bus.{word_seen};
@@ -49,8 +49,8 @@ pub(crate) fn step_word(hart: &mut Hart, word: u32) -> StepLine
     requires in_ram { IsTrue (in_ram hart.old.pc 4) }
     requires plain { StepsPlainly (hart_seen hart.old) word }
     ensures step { step (word_seen hart.old.pc word) (hart_seen hart.old)
-        ≡ Some (record { effect = effect_seen result; hart = hart_seen hart.new }) }
-    ensures ranges { IsStep (effect_seen result) }
+        ≡ Some (record { effect = step_seen result; hart = hart_seen hart.new }) }
+    ensures ranges { IsStep (step_seen result) }
     ensures register { IfSome result.rd (λ w. (0 < w.0) × (w.0 < 32)) }
     ensures zero { slice_index hart.new.x 0 ≡ 0 }
 {

@@ -11,7 +11,7 @@ ghost use Rattle.trace_text.specs.Traces.{IsStep, KeepsRanges};
 ghost use Rattle.world_face.specs.Events.{no_parts};
 ghost use Rattle.hart_task.specs.Acts.{request_kind};
 ghost use Rattle.hart_task.specs.Asking.{item_seen};
-ghost use Rattle.trace_text.specs.Views.{effect_seen};
+ghost use Rattle.trace_text.specs.Views.{step_seen};
 ghost use Rattle.world_face.specs.Views.{event_seen};
 ghost use Rattle.world_face.specs.Views as room;
 ghost use Rattle.hart_task.specs.Task.{ended_lines};
@@ -69,7 +69,7 @@ pub struct HartTask {
 impl HartTask {
     ghost use Rattle.hart_task.specs.Acts.{Fixing, fixing_lines};
     ghost use Rattle.hart_task.specs.Asking.{word_asked};
-    ghost use Rattle.hart_task.specs.Log.{HasRoom, HasRoomForEvent, log_seen};
+    ghost use Rattle.hart_task.specs.Log.{HasLogRoom, HasRoomForEvent, log_seen};
     ghost use Rattle.hart_task.specs.Plain.{IsPlainFor};
     ghost use Rattle.hart_task.specs.Task.{Commits, IsLogOf, IsRowOf, IsTaskOf, IsTurn, Steps, begun_task, events_left, fixed_task, late_of, late_one, script, task_event, task_seen, with_event};
     ghost use Rattle.rv_step.specs.Views.{hart_seen};
@@ -269,14 +269,14 @@ impl HartTask {
     /// Gives the untouched registers that the word reads their starting values.
     fn fix_sources(&mut self, word: u32, event: &mut Event)
         requires row { (d : Decoded) × IsRowOf word d }
-        requires room { room.HasRoom 4 event.old }
+        requires room { room.HasRoomForLines 4 event.old }
         requires few { self.old.draws.drawn ≤ 2002 }
         ensures task { (d : Decoded) → IsRowOf word d → task_seen self.new ≡ fixed_task (task_seen self.old) (late_of (task_seen self.old) d) }
         ensures event { (d : Decoded) → IsRowOf word d → event_seen event.new
             ≡ record (event_seen event.old) { lines = (event_seen event.old).lines ++ fixing_lines self.old.hart.number (late_of (task_seen self.old) d) } }
         ensures ranges { (d : Decoded) → IsRowOf word d → AllByRecursion KeepsRanges (fixing_lines self.old.hart.number (late_of (task_seen self.old) d)) }
-        ensures log { HasRoom self.old.log → HasRoom self.new.log }
-        ensures room { room.HasRoom 2 event.new }
+        ensures log { HasLogRoom self.old.log → HasLogRoom self.new.log }
+        ensures room { room.HasRoomForLines 2 event.new }
         ensures zero { slice_index self.old.hart.x 0 ≡ 0 → slice_index self.new.hart.x 0 ≡ 0 }
     {
         let (_, ops) = decode(word).unwrap();
@@ -287,14 +287,14 @@ impl HartTask {
     /// Gives the register its starting value, if it is untouched: the next word of the hart's stream.
     fn fix_source(&mut self, register: u8, event: &mut Event)
         requires register { register < 32 }
-        requires room { room.HasRoom 1 event.old }
+        requires room { room.HasRoomForLines 1 event.old }
         requires few { self.old.draws.drawn ≤ 2003 }
         ensures task { task_seen self.new ≡ fixed_task (task_seen self.old) (late_one (task_seen self.old) register) }
         ensures event { event_seen event.new
             ≡ record (event_seen event.old) { lines = (event_seen event.old).lines ++ fixing_lines self.old.hart.number (late_one (task_seen self.old) register) } }
         ensures ranges { AllByRecursion KeepsRanges (fixing_lines self.old.hart.number (late_one (task_seen self.old) register)) }
-        ensures log { HasRoom self.old.log → HasRoom self.new.log }
-        ensures room { (count : ℕ) → room.HasRoom (count + 1) event.old → room.HasRoom count event.new }
+        ensures log { HasLogRoom self.old.log → HasLogRoom self.new.log }
+        ensures room { (count : ℕ) → room.HasRoomForLines (count + 1) event.old → room.HasRoomForLines count event.new }
         ensures zero { slice_index self.old.hart.x 0 ≡ 0 → slice_index self.new.hart.x 0 ≡ 0 }
     {
         if self.log.values.touched(register) {
@@ -338,9 +338,9 @@ fn request_in(item: &Item) -> Request
 
 /// Tells of a step, behind which the request of the number is done, or, where there is none, the hart has ended.
 fn tell_step(event: &mut Event, step: StepLine, done: Option<u32>)
-    requires { room.HasRoom 2 event.old }
-    ensures ranges { IsStep (effect_seen step) → AllByRecursion KeepsRanges (ended_lines event.old.hart done (effect_seen step)) }
-    ensures event { event_seen event.new ≡ record (event_seen event.old) { lines = (event_seen event.old).lines ++ ended_lines event.old.hart done (effect_seen step) } }
+    requires { room.HasRoomForLines 2 event.old }
+    ensures ranges { IsStep (step_seen step) → AllByRecursion KeepsRanges (ended_lines event.old.hart done (step_seen step)) }
+    ensures event { event_seen event.new ≡ record (event_seen event.old) { lines = (event_seen event.old).lines ++ ended_lines event.old.hart done (step_seen step) } }
 {
     let Some(k) = done else {
         event.add(Line::E(step));

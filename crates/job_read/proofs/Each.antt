@@ -6,7 +6,7 @@ use Rattle.serde_json.specs.Data.{Data, Items as Values, no_items as no_values, 
 use Rattle.serde_json.specs.View.{view, items_view}
 use Rattle.json_keys.specs.declared.input.InputFault.{InputFault}
 use Rattle.json_keys.specs.declared.input.InputFault.TheVariants.{NotBuilt, Memory}
-use Rattle.json_keys.specs.Input.{Reads}
+use Rattle.json_keys.specs.Input.{ReadsAs}
 use Rattle.rv_fields.specs.Attempt.{◌>>=◌}
 use Rattle.region_plan.specs.declared.job.Job.{Job}
 use Rattle.region_plan.specs.declared.plan.HartPlan as code
@@ -15,8 +15,8 @@ use Rattle.region_plan.specs.declared.request.Item.TheVariants.{One}
 use Rattle.region_plan.specs.declared.request.Request as asked
 use Rattle.region_plan.specs.Plan.{HartPlan}
 use Rattle.region_plan.specs.Request.{Items, no_items, one}
-use Rattle.region_plan.specs.Views.{hart_seen, harts_seen, items_seen, request_seen, work_of}
-use Rattle.job_read.specs.Accepted.{request_of, items_of, hart_of, harts_of}
+use Rattle.region_plan.specs.Views.{harts_seen, items_seen, planned_hart, request_seen, work_of}
+use Rattle.job_read.specs.Accepted.{request_of, items_of, accepted_hart, harts_of}
 
 -- One value more is read: what was read so far, ahead of what the values left give, is the whole as before.
 one_more : {Y Z : Type 0} (read_one : Data → Option Y) (read_all : Values → Option Z) (join : Y → Z → Z)
@@ -82,25 +82,25 @@ with_templates harts templates = harts_seen harts (map (λ t. items_seen t.items
 
 seen_more : (harts : List code.HartPlan) (templates : List (Vec Item Global)) (hart : code.HartPlan) (template : Vec Item Global)
     → length templates ≡ length harts
-    → with_templates (harts ++ hart ∷ []) (templates ++ template ∷ []) ≡ with_templates harts templates ++ hart_seen hart (items_seen template.items) ∷ []
+    → with_templates (harts ++ hart ∷ []) (templates ++ template ∷ []) ≡ with_templates harts templates ++ planned_hart hart (items_seen template.items) ∷ []
 seen_more [] [] hart template e = refl
 seen_more [] (t ∷ templates) hart template e = absurd cc
 seen_more (h ∷ harts) [] hart template e = absurd cc
 seen_more (h ∷ harts) (t ∷ templates) hart template e =
-    let tails : length templates ≡ length harts = cc in ap (λ hs. hart_seen h (items_seen t.items) ∷ hs) (seen_more harts templates hart template tails)
+    let tails : length templates ≡ length harts = cc in ap (λ hs. planned_hart h (items_seen t.items) ∷ hs) (seen_more harts templates hart template tails)
 
 pub hart_more : (values : List Value) (index : ℕ) (harts harts_now : List code.HartPlan) (templates templates_now : List (Vec Item Global))
     (value : Value) (hart : code.HartPlan) (template : Vec Item Global) (all : Option (List HartPlan))
-    → index < length values → get_or values index value ≡ value → hart_of (view value) ≡ Some (hart_seen hart (items_seen template.items))
+    → index < length values → get_or values index value ≡ value → accepted_hart (view value) ≡ Some (planned_hart hart (items_seen template.items))
     → harts_now ≡ harts ++ hart ∷ [] → templates_now ≡ templates ++ template ∷ [] → length templates ≡ length harts
     → (harts_of (items_view (drop index values)) >>= λ others. Some (with_templates harts templates ++ others)) ≡ all
     → (harts_of (items_view (drop (index + 1) values)) >>= λ others. Some (with_templates harts_now templates_now ++ others)) ≡ all
 hart_more values index harts harts_now templates templates_now value hart template all small at read is_harts is_templates same whole =
-    one_more hart_of harts_of (λ h hs. h ∷ hs) (λ v vs. refl) values index value (hart_seen hart (items_seen template.items))
+    one_more accepted_hart harts_of (λ h hs. h ∷ hs) (λ v vs. refl) values index value (planned_hart hart (items_seen template.items))
     (λ others. with_templates harts templates ++ others) (λ others. with_templates harts_now templates_now ++ others) all small at read
-    (λ others. ap (λ hs. hs ++ others) now_seen ∙ append_assoc (with_templates harts templates) (hart_seen hart (items_seen template.items) ∷ []) others) whole
+    (λ others. ap (λ hs. hs ++ others) now_seen ∙ append_assoc (with_templates harts templates) (planned_hart hart (items_seen template.items) ∷ []) others) whole
   where
-    now_seen : with_templates harts_now templates_now ≡ with_templates harts templates ++ hart_seen hart (items_seen template.items) ∷ []
+    now_seen : with_templates harts_now templates_now ≡ with_templates harts templates ++ planned_hart hart (items_seen template.items) ∷ []
     now_seen = ap (λ hs. with_templates hs templates_now) is_harts ∙ ap (with_templates (harts ++ hart ∷ [])) is_templates ∙ seen_more harts templates hart template same
 
 pub harts_all : (values : List Value) (index : ℕ) (harts : List code.HartPlan) (templates : List (Vec Item Global)) → length values ≤ index
@@ -111,7 +111,7 @@ harts_all values index harts templates end whole =
 
 -- a hart that isn't read leaves no harts
 unread : (values : List Value) (index : ℕ) (value : Value) (so_far : List HartPlan)
-    → index < length values → get_or values index value ≡ value → hart_of (view value) ≡ None
+    → index < length values → get_or values index value ≡ value → accepted_hart (view value) ≡ None
     → (harts_of (items_view (drop index values)) >>= λ others. Some (so_far ++ others)) ≡ harts_of (items_view values)
     → harts_of (items_view values) ≡ None
 unread values index value so_far small at none whole =
@@ -122,13 +122,13 @@ unread values index value so_far small at none whole =
 
 pub no_harts : (values : List Value) (index : ℕ) (value : Value) (so_far : List HartPlan) (fault : InputFault) (result : Result Job InputFault)
     → index < length values → get_or values index value ≡ value
-    → Reads {X = code.HartPlan × Vec Item Global} (λ h. hart_seen h.0 (items_seen h.1.items)) (Err fault) (hart_of (view value))
+    → ReadsAs {X = code.HartPlan × Vec Item Global} (λ h. planned_hart h.0 (items_seen h.1.items)) (Err fault) (accepted_hart (view value))
     → (harts_of (items_view (drop index values)) >>= λ others. Some (so_far ++ others)) ≡ harts_of (items_view values)
-    → result ≡ Err fault → Reads (λ job. (work_of job).harts) result (harts_of (items_view values))
+    → result ≡ Err fault → ReadsAs (λ job. (work_of job).harts) result (harts_of (items_view values))
 no_harts values index value so_far fault result small at read whole is =
-    subst (λ r. Reads (λ job. (work_of job).harts) r (harts_of (items_view values))) (sym is) (by fault read)
+    subst (λ r. ReadsAs (λ job. (work_of job).harts) r (harts_of (items_view values))) (sym is) (by fault read)
   where
-    by : (fault : InputFault) → Reads {X = code.HartPlan × Vec Item Global} (λ h. hart_seen h.0 (items_seen h.1.items)) (Err fault) (hart_of (view value))
-        → Reads (λ job. (work_of job).harts) (Err fault) (harts_of (items_view values))
+    by : (fault : InputFault) → ReadsAs {X = code.HartPlan × Vec Item Global} (λ h. planned_hart h.0 (items_seen h.1.items)) (Err fault) (accepted_hart (view value))
+        → ReadsAs (λ job. (work_of job).harts) (Err fault) (harts_of (items_view values))
     by NotBuilt none = unread values index value so_far small at none whole
     by Memory read = tt

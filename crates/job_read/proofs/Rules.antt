@@ -19,9 +19,9 @@ use Rattle.region_plan.specs.Rules.{IsMakeable, IsMakeableRequest, IsPlainHart, 
 use Rattle.region_plan.specs.Script.{script_of}
 use Rattle.region_plan.specs.Views.{work_of, work_with}
 use Rattle.json_keys.specs.declared.input.InputFault.{InputFault}
-use Rattle.json_keys.specs.Input.{Reads}
+use Rattle.json_keys.specs.Input.{ReadsAs}
 use Rattle.json_keys.specs.Json.{integer, object_of, natural_at, text_at}
-use Rattle.job_read.specs.Accepted.{given_by, pins_of, register, request_of, items_of, template_at, hart_of, harts_of, harts_at, job_of}
+use Rattle.job_read.specs.Accepted.{given_by, pins_of, register, request_of, items_of, template_at, accepted_hart, harts_of, harts_at, job_of}
 
 -- the operands that are read are all that an item has
 pins_alone : (members : Members) (pins : Pins) → pins_of members ≡ Some pins → pins ≡ bare_pins pins.rd pins.rs1 pins.rs2 pins.imm
@@ -68,7 +68,7 @@ template_has_room hart values e =
     rw (← passed.1) (leb-true _ _ (and_parts _ _ passed.0).1)
 
 -- an accepted hart is a plain one
-hart_plain : (value : Data) (hart : HartPlan) → hart_of value ≡ Some hart → IsPlainHart hart
+hart_plain : (value : Data) (hart : HartPlan) → accepted_hart value ≡ Some hart → IsPlainHart hart
 hart_plain value hart e =
     let values = found (template_at value) _ hart e in
     let items = found (items_of values.0) _ hart values.2 in
@@ -84,7 +84,7 @@ harts_plain no_values harts e =
     let none : [] ≡ harts = same_Some _ _ e in
     rw (← none) (tt, refl)
 harts_plain (item value values) harts e =
-    let first = found (hart_of value) _ harts e in
+    let first = found (accepted_hart value) _ harts e in
     let others = found (harts_of values) _ harts first.2 in
     let all : first.0 ∷ others.0 ≡ harts = same_Some _ _ others.2 in
     let rest = harts_plain values others.0 others.1 in
@@ -117,6 +117,6 @@ job_keeps_rules value work e =
     })
 
 -- what is read of an accepted value keeps the rules
-pub reads_rules : (value : Data) (result : Result Job InputFault) → Reads work_of result (job_of value) → IfOk result (λ job. KeepsRules (work_of job))
+pub reads_rules : (value : Data) (result : Result Job InputFault) → ReadsAs work_of result (job_of value) → IfOk result (λ job. KeepsRules (work_of job))
 reads_rules value (Ok job) spelled = job_keeps_rules value (work_of job) spelled
 reads_rules value (Err fault) spelled = tt

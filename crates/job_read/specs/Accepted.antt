@@ -80,8 +80,8 @@ template_at hart = do
       else None
 
 -- a hart: in mode M, with one page of code and its template
-abbrev pub hart_of : Data → Option HartPlan
-hart_of value = do
+abbrev pub accepted_hart : Data → Option HartPlan
+accepted_hart value = do
   values ← template_at value
   items ← items_of values
   Some (record no_hart { template = items })
@@ -90,7 +90,7 @@ hart_of value = do
 abbrev pub harts_of : Values → Option (List HartPlan)
 harts_of no_values = Some []
 harts_of (item value values) = do
-  hart ← hart_of value
+  hart ← accepted_hart value
   harts ← harts_of values
   Some (hart ∷ harts)
 

@@ -1,8 +1,8 @@
 ghost use Rattle.std.specs.Prelude.{◌≡◌, option_map};
 ghost use Rattle.serde_json.specs.View.{view, items_view};
-ghost use Rattle.json_keys.specs.Input.{Reads};
-ghost use Rattle.region_plan.specs.Views.{hart_seen, items_seen, work_of};
-ghost use Rattle.job_read.specs.Accepted.{template_at, hart_of, harts_of, harts_at};
+ghost use Rattle.json_keys.specs.Input.{ReadsAs};
+ghost use Rattle.region_plan.specs.Views.{items_seen, planned_hart, work_of};
+ghost use Rattle.job_read.specs.Accepted.{template_at, accepted_hart, harts_of, harts_at};
 
 use crate::requests::items_of;
 use json_keys::{InputFault, natural_at, object_of, text_at, value_at};
@@ -28,7 +28,7 @@ pub(crate) fn harts_at(value: &Value) -> Option<&[Value]>
 
 /// The job of these harts, in their order.
 pub(crate) fn harts_of(alloc: Global, values: &[Value]) -> Result<Job, InputFault>
-    ensures { Reads (λ job. (work_of job).harts) result (harts_of (items_view values.now)) }
+    ensures { ReadsAs (λ job. (work_of job).harts) result (harts_of (items_view values.now)) }
 {
     let mut harts = Vec::with_capacity(alloc, values.len())?;
     let mut templates = Vec::with_capacity(alloc, values.len())?;
@@ -42,7 +42,7 @@ pub(crate) fn harts_of(alloc: Global, values: &[Value]) -> Result<Job, InputFaul
 
 /// A hart, and its template.
 fn hart_of(alloc: Global, value: &Value) -> Result<(HartPlan, Vec<Item>), InputFault>
-    ensures { Reads (λ h. hart_seen h.0 (items_seen h.1.items)) result (hart_of (view value.now)) }
+    ensures { ReadsAs (λ h. planned_hart h.0 (items_seen h.1.items)) result (accepted_hart (view value.now)) }
 {
     let values = template_at(value).ok_or(InputFault::NotBuilt)?;
     let template = items_of(alloc, values)?;

@@ -1,7 +1,7 @@
 ghost use Rattle.std.specs.Prelude.{◌≡◌, option_map};
 ghost use Rattle.serde_json.specs.Find.{get_member};
 ghost use Rattle.serde_json.specs.View.{view, items_view, members_view};
-ghost use Rattle.json_keys.specs.Input.{Reads};
+ghost use Rattle.json_keys.specs.Input.{ReadsAs};
 ghost use Rattle.json_keys.specs.Json.{integer};
 ghost use Rattle.region_plan.specs.Views.{items_seen, pins_seen, request_seen};
 ghost use Rattle.job_read.specs.Accepted.{given_by, items_of, key_count, pins_of, register, request_for, request_of};
@@ -15,7 +15,7 @@ use std::alloc::Global;
 
 /// The items of a template, in their order.
 pub(crate) fn items_of(alloc: Global, values: &[Value]) -> Result<Vec<Item>, InputFault>
-    ensures { Reads (λ v. items_seen v.items) result (items_of (items_view values.now)) }
+    ensures { ReadsAs (λ v. items_seen v.items) result (items_of (items_view values.now)) }
 {
     let mut items = Vec::with_capacity(alloc, values.len())?;
     for value in values {

@@ -15,9 +15,9 @@ pub enum InputFault {
 }
 
 impl fmt::Display for InputFault {
-    ghost use Rattle.json_keys.specs.Input.{message};
+    ghost use Rattle.json_keys.specs.Input.{input_message};
 
-    ghost output = { λ fault. Some (message fault) };
+    ghost output = { λ fault. Some (input_message fault) };
 
     fn fmt<W: fmt::Write>(&self, f: &mut fmt::Formatter<W>) -> fmt::Result {
         f.write_str(match self {

@@ -3,7 +3,7 @@
 ghost use Rattle.std.specs.Prelude.{◌≡◌, option_map};
 ghost use Rattle.serde_json.specs.Find.{get_member};
 ghost use Rattle.serde_json.specs.View.{view, members_view};
-ghost use Rattle.json_keys.specs.Input.{Reads};
+ghost use Rattle.json_keys.specs.Input.{ReadsAs};
 ghost use Rattle.json_keys.specs.Json.{document, object_of, natural_at, text_at};
 
 use crate::input::InputFault;
@@ -16,7 +16,7 @@ pub type Members = Map<String, Value>;
 /// The JSON value that a file spells.
 #[tactic(auto, using(crate::proofs::Reading::documents))]
 pub fn document(alloc: Global, bytes: &[u8]) -> Result<Value, InputFault>
-    ensures { Reads view result (document bytes.now) }
+    ensures { ReadsAs view result (document bytes.now) }
 {
     match Value::from_slice(alloc, bytes) {
         Ok(value) => Ok(value),

@@ -84,8 +84,8 @@ pub record Drawn : Type 0 where
   pub left : Draws
 
 -- rd, rs1 and rs2, in this order
-abbrev pub with_registers : Draws → Operand → Operand → Operand → Drawn
-with_registers draws rd rs1 rs2 =
+abbrev pub drawn_registers : Draws → Operand → Operand → Operand → Drawn
+drawn_registers draws rd rs1 rs2 =
     let behind_rd = behind_operand draws rd in
     let behind_rs1 = behind_operand behind_rd rs1 in
     record {
@@ -94,7 +94,7 @@ with_registers draws rd rs1 rs2 =
     }
 
 abbrev pub registers_drawn : Draws → List Operand → Drawn
-registers_drawn draws operands = with_registers draws (get_or operands 0 no_operand) (get_or operands 1 no_operand) (get_or operands 2 no_operand)
+registers_drawn draws operands = drawn_registers draws (get_or operands 0 no_operand) (get_or operands 1 no_operand) (get_or operands 2 no_operand)
 
 abbrev pub with_drawn_imm : Option ℤ → Drawn → Drawn
 with_drawn_imm None d = d

@@ -129,7 +129,7 @@ serves_mem ins r counter =
 
 -- the operands, the value that the base has or gets, the address (of a wanted load its page's start), whether the base is
 -- fixed, and whether it is loaded by words before
-pub record Placed : Type 0 where
+pub record PlacedAccess : Type 0 where
   pub ops : Ops
   pub base_value : ℕ
   pub address : ℕ
@@ -146,7 +146,7 @@ abbrev pub narrowed : Operand → List ℕ → Operand
 narrowed o [] = o
 narrowed o (m ∷ ms) = record o { members = m ∷ ms }
 
-abbrev pub with_others : Ins → MemRequest → Option ℕ → Placed → Placed
+abbrev pub with_others : Ins → MemRequest → Option ℕ → PlacedAccess → PlacedAccess
 with_others ins r counter p =
     let source = without_base ins p.ops.rs1 (source_of ins r counter) in
     let behind_source = behind_operand p.left source in
@@ -155,7 +155,7 @@ with_others ins r counter p =
       left = behind_operand behind_source (rd_of_mem ins r counter);
     }
 
-abbrev pub placement : MemRequest → ℕ → ℤ → ℕ → ℕ → Bool → Bool → Draws → Placed
+abbrev pub placement : MemRequest → ℕ → ℤ → ℕ → ℕ → Bool → Bool → Draws → PlacedAccess
 placement r base offset address base_value untouched preamble left = record {
   ops = record { rd = 0; rs1 = base; rs2 = 0; imm = offset; aqrl = r.pins.aqrl };
   base_value = base_value;
@@ -170,7 +170,7 @@ free_offset (only ∷ []) word = only
 free_offset several word = offset_by word
 
 -- the address by a word, and the offset by the next one, where it is drawn
-abbrev pub placed_freely : Candidates → Ins → MemRequest → ℕ → Bool → Bool → Draws → Placed
+abbrev pub placed_freely : Candidates → Ins → MemRequest → ℕ → Bool → Bool → Draws → PlacedAccess
 placed_freely c ins r base untouched preamble draws =
     let address = nth c (next_word draws % count c) in
     let offset = free_offset (offsets ins r.pins.imm) (next_word (skipped draws 1)) in
@@ -178,21 +178,21 @@ placed_freely c ins r base untouched preamble draws =
     (skipped draws (if length (offsets ins r.pins.imm) == 1 then 1 else 2))
 
 -- among those in reach of the base's value, rising by offset
-abbrev pub placed_by_value : List ℤ → MemRequest → ℕ → ℕ → Draws → Placed
+abbrev pub placed_by_value : List ℤ → MemRequest → ℕ → ℕ → Draws → PlacedAccess
 placed_by_value reach r base value draws =
     let offset = get_or reach (next_word draws % length reach) (pos 0) in
     placement r base offset (wrapped (pos value +ℤ offset)) value false false (skipped draws 1)
 
 -- the address and the offset for a base with its value, if it has one
-abbrev pub placed_at : Work → ℕ → Ins → MemRequest → Option ℕ → Bool → ℕ → Draws → Placed
+abbrev pub placed_at : Work → ℕ → Ins → MemRequest → Option ℕ → Bool → ℕ → Draws → PlacedAccess
 placed_at work h ins r value preamble base draws =
     if is_some r.want then placement r base (pos 0) (page_start (wanted_page work h r)) (middle (wanted_page work h r)) (is_none value) preamble draws
     else (if preamble || is_none value then placed_freely (candidates work h ins r) ins r base (is_none value) preamble draws
     else placed_by_value (in_reach (candidates work h ins r) (offsets ins r.pins.imm) (unwrap_or value 0)) r base (unwrap_or value 0) draws)
 
 -- base and address, then source and rd
-abbrev pub placed : Work → ℕ → Ins → MemRequest → Option ℕ → (ℕ → Option ℕ) → Draws → Placed
-placed work h ins r counter x draws =
+abbrev pub placed_access : Work → ℕ → Ins → MemRequest → Option ℕ → (ℕ → Option ℕ) → Draws → PlacedAccess
+placed_access work h ins r counter x draws =
     let close = near work h ins r counter x in
     let base = narrowed (base_of r counter) close in
     with_others ins r counter (placed_at work h ins r (x (value_of_operand draws base)) (length close == 0) (value_of_operand draws base) (behind_operand draws base))

@@ -112,10 +112,10 @@ abbrev pub opens_to : HartPlan → ℕ → Bool
 opens_to plan flags = if mode_number plan.mode == 0 then has_flag 4 flags else (not (has_flag 4 flags) || plan.sum)
 
 -- A flag A is set, and W and D for a store.
-abbrev pub allows : HartPlan → Bool → Region → Bool
-allows plan is_store region =
+abbrev pub allows_region : HartPlan → Bool → Region → Bool
+allows_region plan is_store region =
     has_flag 6 region.flags && opens_to plan region.flags && (not is_store || (has_flag 2 region.flags && has_flag 7 region.flags))
 
 -- The class of a page's addresses for a hart's loads or stores: whether they are open to it. All that lies in no region isn't.
 abbrev pub may_access : Work → ℕ → Bool → ℕ → Bool
-may_access work h is_store page = option_map_or (allows (plan_of work h) is_store) (region_at (regions_of work h) page) false
+may_access work h is_store page = option_map_or (allows_region (plan_of work h) is_store) (region_at (regions_of work h) page) false

@@ -27,18 +27,18 @@ items_seen [] = no_items
 items_seen (One request ∷ items) = one (request_seen request) (items_seen items)
 
 -- a hart with its template
-abbrev pub hart_seen : code.HartPlan → Items → HartPlan
-hart_seen hart template = record no_hart { mode = hart.mode; code_pages = hart.code_pages; template = template }
+abbrev pub planned_hart : code.HartPlan → Items → HartPlan
+planned_hart hart template = record no_hart { mode = hart.mode; code_pages = hart.code_pages; template = template }
 
 -- harts with their templates, one for each
 abbrev pub harts_seen : List code.HartPlan → List Items → List HartPlan
 harts_seen [] templates = []
 harts_seen (hart ∷ harts) [] = []
-harts_seen (hart ∷ harts) (template ∷ templates) = hart_seen hart template ∷ harts_seen harts templates
+harts_seen (hart ∷ harts) (template ∷ templates) = planned_hart hart template ∷ harts_seen harts templates
 
 -- a hart of a plan, without its template; beyond the plan it is one of mode M
 abbrev pub plan_at : List code.HartPlan → ℕ → HartPlan
-plan_at harts h = hart_seen (get_or harts h (record { mode = M; code_pages = plain_code_pages })) no_items
+plan_at harts h = planned_hart (get_or harts h (record { mode = M; code_pages = plain_code_pages })) no_items
 
 -- The plan has as many harts as the work, and says of each what the work says, but for its template.
 pub record IsPlannedBy (harts : List code.HartPlan) (work : Work) : Type 0 where

@@ -7,11 +7,11 @@ use Rattle.rv_fields.specs.declared.row_table.Ins.{Ins}
 use Rattle.rv_fields.specs.declared.row_table.Ins.TheVariants.{Addi, Addiw, Lui, Slli}
 
 -- the low 12 bits read with their sign, and what is left above them
-abbrev pub low_part : ℤ → ℤ
-low_part z = signed_of (2 ^ 11) (modulo (2 ^ 12) z)
+abbrev pub low_immediate : ℤ → ℤ
+low_immediate z = signed_of (2 ^ 11) (modulo (2 ^ 12) z)
 
 abbrev pub high_part : ℤ → ℤ
-high_part z = int_div_euclid (z -ℤ low_part z) (pos (2 ^ 12))
+high_part z = int_div_euclid (z -ℤ low_immediate z) (pos (2 ^ 12))
 
 abbrev pub li_word : Ins → ℕ → ℕ → ℤ → ℕ
 li_word ins register source imm = word_by ins (record { rd = register; rs1 = source; rs2 = 0; imm = imm; aqrl = 0 })
@@ -26,9 +26,9 @@ li register value =
     let v1 = high_part v in
     let v2 = high_part v1 in
     let v3 = high_part v2 in
-    li_word Lui register 0 (v3 -ℤ low_part v3)
-    ∷ li_word Addiw register register (low_part v3)
-    ∷ shift_word register ∷ li_word Addi register register (low_part v2)
-    ∷ shift_word register ∷ li_word Addi register register (low_part v1)
-    ∷ shift_word register ∷ li_word Addi register register (low_part v)
+    li_word Lui register 0 (v3 -ℤ low_immediate v3)
+    ∷ li_word Addiw register register (low_immediate v3)
+    ∷ shift_word register ∷ li_word Addi register register (low_immediate v2)
+    ∷ shift_word register ∷ li_word Addi register register (low_immediate v1)
+    ∷ shift_word register ∷ li_word Addi register register (low_immediate v)
     ∷ []

@@ -15,7 +15,7 @@ use Rattle.rv_fields.specs.CsrFile.{CsrFile, is_kept_back, may_read, may_write, 
 use Rattle.rv_fields.specs.Decode.{Decoded}
 use Rattle.rv_fields.specs.Effect.{Entry}
 use Rattle.rv_fields.specs.Hart.{Hart}
-use Rattle.rv_fields.specs.Laws.{with_registers, from_registers, with_open, opened, is_open, is_open_found, names_open, names_open_at, names_open_in, Leaves, SameWhateverOpen, EachLeaves}
+use Rattle.rv_fields.specs.Laws.{with_registers, from_registers, with_open, opened, is_open, is_open_found, names_open, names_open_at, names_open_in, StepLeaves, SameWhateverOpen, EachLeaves}
 use Rattle.rv_fields.specs.Meaning.{is_taken}
 use Rattle.rv_fields.specs.Memory.{Seen, in_ram, told}
 use Rattle.rv_fields.specs.Status.{tsr, tvm}
@@ -213,12 +213,12 @@ more_told_open part whole more x c t hart tells s closed e =
 
 -- ---- what each step leaves
 
-outcome_leaves : (hart : Hart) (pa word rd : ℕ) (o : Outcome) → Leaves hart (stepped_by hart pa word rd o)
+outcome_leaves : (hart : Hart) (pa word rd : ℕ) (o : Outcome) → StepLeaves hart (stepped_by hart pa word rd o)
 unfolding trap_taken
 outcome_leaves hart pa word rd (retires done) = record { effect_hart = refl; effect_pc = refl; number = refl; registers = refl }
 outcome_leaves hart pa word rd (raises cause tval trail) = record { effect_hart = refl; effect_pc = refl; number = refl; registers = refl }
 
-course_leaves : (seen : Seen) (hart : Hart) (s : Stepped) → Course seen hart s → Leaves hart s
+course_leaves : (seen : Seen) (hart : Hart) (s : Stepped) → Course seen hart s → StepLeaves hart s
 unfolding trap_taken
 course_leaves seen hart s (unreached trail cause fetched) = record { effect_hart = refl; effect_pc = refl; number = refl; registers = refl }
 course_leaves seen hart s (lacks_word trail pa fetched has) = record { effect_hart = refl; effect_pc = refl; number = refl; registers = refl }

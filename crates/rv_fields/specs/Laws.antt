@@ -90,14 +90,14 @@ SameWhateverOpen = (part whole : Seen) → Extends part whole → (x : Registers
     → (s : Stepped) → names_open_in s.effect.word ≡ false → step part hart ≡ Some s → DidSame x s (step whole (opened x cause tval hart))
 
 -- A step leaves the hart's number, and its registers but for the one that its effect names.
-pub record Leaves (hart : Hart) (s : Stepped) : Type 0 where
+pub record StepLeaves (hart : Hart) (s : Stepped) : Type 0 where
   pub effect_hart : s.effect.hart ≡ hart.number
   pub effect_pc : s.effect.pc ≡ hart.pc
   pub number : s.hart.number ≡ hart.number
   pub registers : s.hart.x ≡ with_write hart.x s.effect.rd
 
 abbrev pub EachLeaves : Type 0
-EachLeaves = (seen : Seen) (hart : Hart) (s : Stepped) → step seen hart ≡ Some s → Leaves hart s
+EachLeaves = (seen : Seen) (hart : Hart) (s : Stepped) → step seen hart ≡ Some s → StepLeaves hart s
 
 -- ---- all told
 

@@ -6,7 +6,7 @@ use Rattle.std.proofs.lemmas.Bool.{cases_eq, ne_eqb}
 use Rattle.rv_step.specs.declared.hart.Hart.{Hart}
 use Rattle.rv_step.specs.Views.{hart_seen}
 use Rattle.rv_machine.specs.declared.reset.Reset.{Reset}
-use Rattle.rv_machine.specs.Views.{hart_in, no_hart, reset_hart}
+use Rattle.rv_machine.specs.Views.{absent_hart, hart_in, reset_hart}
 use Rattle.rv_fields.proofs.Lists.{get_of_set_other, get_of_set_same}
 
 -- the hart is as its reset makes it
@@ -27,10 +27,10 @@ pub harts_updated : (harts : List Hart) (i : ℕ) (new : Hart) (h : ℕ) → i <
 harts_updated harts i new h below =
     elim (cases_eq h i) [
       | inl same ↦
-          ap (λ k. option_map_or hart_seen (slice_get (set harts i new) k) no_hart) same
-          ∙ ap (λ o. option_map_or hart_seen o no_hart) (get_of_set_same harts i new below)
+          ap (λ k. option_map_or hart_seen (slice_get (set harts i new) k) absent_hart) same
+          ∙ ap (λ o. option_map_or hart_seen o absent_hart) (get_of_set_same harts i new below)
           ∙ ap (λ b. cond b (hart_seen new) (hart_in harts h)) (sym (eq-eqb h i same))
       | inr apart ↦
-          ap (λ o. option_map_or hart_seen o no_hart) (get_of_set_other harts i new h apart)
+          ap (λ o. option_map_or hart_seen o absent_hart) (get_of_set_other harts i new h apart)
           ∙ ap (λ b. cond b (hart_seen new) (hart_in harts h)) (sym (ne_eqb h i apart))
     ]

@@ -22,17 +22,17 @@ abbrev pub memory_seen : Memory → Seen
 memory_seen m = record { byte = whole (memory m.ram); link = links_seen m.links.standing.items }
 
 -- the hart at a place; where there is none, one that doesn't exist
-abbrev pub no_hart : machine.Hart
-no_hart = record { number = 0; pc = 0; x = λ r. Some 0; mode = M; csrs = zero_file; reserved = None }
+abbrev pub absent_hart : machine.Hart
+absent_hart = record { number = 0; pc = 0; x = λ r. Some 0; mode = M; csrs = zero_file; reserved = None }
 
 abbrev pub hart_in : List Hart → ℕ → machine.Hart
-hart_in harts h = option_map_or hart_seen (slice_get harts h) no_hart
+hart_in harts h = option_map_or hart_seen (slice_get harts h) absent_hart
 
 abbrev pub machine_seen : Machine → play.Machine
 machine_seen m = record { seen = memory_seen m.memory; harts = hart_in m.harts.items }
 
 -- a turn of the hart: one step, which told this, and the machine after it
-pub record IsTurn (hart : ℕ) (told : Stepped) (old new : play.Machine) : Type 0 where
+pub record IsMachineTurn (hart : ℕ) (told : Stepped) (old new : play.Machine) : Type 0 where
   pub stepped : steps.Stepped
   pub step : steps.step old.seen (old.harts hart) ≡ Some stepped
   pub effect : stepped.effect ≡ effect_seen hart told

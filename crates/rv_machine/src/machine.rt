@@ -21,7 +21,7 @@ pub struct Machine {
 }
 
 impl Machine {
-    ghost use Rattle.rv_machine.specs.Views.{machine_seen, hart_in, reset_hart, IsTurn};
+    ghost use Rattle.rv_machine.specs.Views.{machine_seen, hart_in, reset_hart, IsMachineTurn};
 
     /// The machine at reset: a hart for each of these, numbered from 0.
     pub fn new(alloc: Global, ram: Ram, resets: &[Reset]) -> Result<Machine, NoMemory>
@@ -42,7 +42,7 @@ impl Machine {
     /// Steps the hart once, and tells what it did. Where memory is lacking, nothing is done.
     pub fn turn(&mut self, alloc: Global, hart: u8) -> Result<Stepped, NoMemory>
         requires { hart < length self.old.harts.items }
-        ensures turn { IfOk result (λ stepped. IsTurn hart stepped (machine_seen self.old) (machine_seen self.new)) }
+        ensures turn { IfOk result (λ stepped. IsMachineTurn hart stepped (machine_seen self.old) (machine_seen self.new)) }
         ensures unchanged { OnErr result (machine_seen self.new ≡ machine_seen self.old) }
         ensures count { length self.new.harts.items ≡ length self.old.harts.items }
     {

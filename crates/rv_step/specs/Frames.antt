@@ -10,9 +10,9 @@ use Rattle.rv_step.specs.declared.outcome.Outcome.{Outcome}
 use Rattle.rv_step.specs.declared.outcome.Outcome.TheVariants.{Retires, Raises}
 
 -- an instruction changes no more of the hart than its mode, its CSRs and its reservation, and nothing where it raises a trap
-abbrev pub Leaves : Hart → Hart → Outcome → Type 0
-Leaves old new (Retires done) = new ≡ record old { mode = new.mode; csrs = new.csrs; reserved = new.reserved }
-Leaves old new (Raises cause tval trail) = new ≡ old
+abbrev pub OutcomeLeaves : Hart → Hart → Outcome → Type 0
+OutcomeLeaves old new (Retires done) = new ≡ record old { mode = new.mode; csrs = new.csrs; reserved = new.reserved }
+OutcomeLeaves old new (Raises cause tval trail) = new ≡ old
 
 abbrev pub access_of : Outcome → Option Accessed
 access_of (Retires done) = done.access
@@ -27,13 +27,13 @@ TakesRoom room Sc pa = room pa
 TakesRoom room Amo pa = room pa
 
 -- there is room for the access
-abbrev pub HasRoom : (ℕ → Type 0) → Option Accessed → Type 0
-HasRoom room None = Unit {0}
-HasRoom room (Some a) = TakesRoom room a.kind a.pa
+abbrev pub HasRoomForAccess : (ℕ → Type 0) → Option Accessed → Type 0
+HasRoomForAccess room None = Unit {0}
+HasRoomForAccess room (Some a) = TakesRoom room a.kind a.pa
 
 -- there is room for what comes of an instruction
 abbrev pub HasRoomFor : (ℕ → Type 0) → steps.Outcome → Type 0
-HasRoomFor room (steps.retires done) = HasRoom room done.access
+HasRoomFor room (steps.retires done) = HasRoomForAccess room done.access
 HasRoomFor room (steps.raises cause tval trail) = Unit {0}
 
 abbrev pub HasRoomIfTold : (ℕ → Type 0) → Option steps.Outcome → Type 0
@@ -43,4 +43,4 @@ HasRoomIfTold room (Some o) = HasRoomFor room o
 -- there is room for what a step accesses
 abbrev pub HasRoomForStep : (ℕ → Type 0) → Option steps.Stepped → Type 0
 HasRoomForStep room None = Unit {0}
-HasRoomForStep room (Some s) = HasRoom room s.effect.access
+HasRoomForStep room (Some s) = HasRoomForAccess room s.effect.access

@@ -5,7 +5,7 @@ ghost use Rattle.rv_fields.specs.Immediate.{modulo};
 ghost use Rattle.rv_fields.specs.Status.{tvm, tsr};
 ghost use Rattle.rv_fields.specs.Step.{csr_operand, changed_to, writes, csr_written, csr_read, csr_changed, csr_named_by, returned_from_m, returned_from_s, is_kept_from, illegal, goes, behind, outcome_by};
 ghost use Rattle.rv_step.specs.Views.{hart_seen, outcome_seen};
-ghost use Rattle.rv_step.specs.Frames.{Leaves};
+ghost use Rattle.rv_step.specs.Frames.{OutcomeLeaves};
 
 use crate::hart::Hart;
 use crate::outcome::{Outcome, illegal};
@@ -24,7 +24,7 @@ impl Hart {
     ) -> Outcome
         ensures outcome { outcome_seen self.new result
             ≡ csr_changed (hart_seen self.old) change ops.now operand word (csr_named_by ops.now) }
-        ensures frame { Leaves self.old self.new result }
+        ensures frame { OutcomeLeaves self.old self.new result }
     {
         match csr_named_by(ops) {
             None => illegal(word),
@@ -35,7 +35,7 @@ impl Hart {
 
     fn write_csr(&mut self, change: CsrChange, operand: u64, word: u32, csr: Csr) -> Outcome
         ensures outcome { outcome_seen self.new result ≡ csr_written (hart_seen self.old) change operand word csr }
-        ensures frame { Leaves self.old self.new result }
+        ensures frame { OutcomeLeaves self.old self.new result }
     {
         let Ok(old) = self.csrs.read(csr, self.mode) else {
             return illegal(word);
@@ -59,7 +59,7 @@ impl Hart {
     /// Returns from a trap to M, which only mode M may.
     pub(crate) fn return_from_m(&mut self, word: u32) -> Outcome
         ensures outcome { outcome_seen self.new result ≡ returned_from_m (hart_seen self.old) word self.old.mode }
-        ensures frame { Leaves self.old self.new result }
+        ensures frame { OutcomeLeaves self.old self.new result }
     {
         match self.mode {
             Mode::M => {
@@ -74,7 +74,7 @@ impl Hart {
     /// Returns from a trap to S.
     pub(crate) fn return_from_s(&mut self, word: u32) -> Outcome
         ensures outcome { outcome_seen self.new result ≡ returned_from_s (hart_seen self.old) word }
-        ensures frame { Leaves self.old self.new result }
+        ensures frame { OutcomeLeaves self.old self.new result }
     {
         if self.csrs.keeps_sret_from(self.mode) {
             return illegal(word);

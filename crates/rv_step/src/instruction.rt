@@ -7,7 +7,7 @@ ghost use Rattle.rv_fields.specs.RowTable.{form_of};
 ghost use Rattle.rv_fields.specs.Status.{mode_number};
 ghost use Rattle.rv_fields.specs.Step.{outcome};
 ghost use Rattle.rv_step.specs.Views.{hart_seen, outcome_seen, decoded_seen};
-ghost use Rattle.rv_step.specs.Frames.{Leaves, access_of, HasRoomIfTold};
+ghost use Rattle.rv_step.specs.Frames.{OutcomeLeaves, access_of, HasRoomIfTold};
 
 use crate::bus::Bus;
 use crate::control::csr_operand;
@@ -38,7 +38,7 @@ impl Hart {
         requires room { HasRoomIfTold (B.has_room bus.old) (outcome (B.seen bus.old) (hart_seen self.old) (decoded_seen instruction.now) instruction.now.word instruction.now.rs1 instruction.now.rs2) }
         ensures outcome { outcome (B.seen bus.old) (hart_seen self.old) (decoded_seen instruction.now) instruction.now.word instruction.now.rs1 instruction.now.rs2 ≡ Some (outcome_seen self.new result) }
         ensures bus { B.seen bus.new ≡ after_access self.old.number (access_of result) (B.seen bus.old) }
-        ensures frame { Leaves self.old self.new result }
+        ensures frame { OutcomeLeaves self.old self.new result }
     {
         let Instruction {
             ins,

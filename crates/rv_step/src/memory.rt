@@ -6,7 +6,7 @@ ghost use Rattle.rv_fields.specs.Memory.{IsSize, told, in_ram, granule, after_ac
 ghost use Rattle.rv_fields.specs.Step as steps;
 ghost use Rattle.sv_walk.specs.Views.{trail_seen, rights_seen, walked_seen};
 ghost use Rattle.rv_step.specs.Views.{hart_seen, outcome_seen};
-ghost use Rattle.rv_step.specs.Frames.{Leaves, access_of, HasRoomIfTold};
+ghost use Rattle.rv_step.specs.Frames.{OutcomeLeaves, access_of, HasRoomIfTold};
 ghost use Rattle.rv_step.specs.Aims.{target_seen, aim_seen, IsTarget, IsAim};
 
 use crate::bus::Bus;
@@ -54,7 +54,7 @@ impl Hart {
         requires room { HasRoomIfTold (B.has_room bus.old) (steps.access (B.seen bus.old) (hart_seen self.old) (target_seen target.now)) }
         ensures outcome { steps.access (B.seen bus.old) (hart_seen self.old) (target_seen target.now) ≡ Some (outcome_seen self.new result) }
         ensures bus { B.seen bus.new ≡ after_access self.old.number (access_of result) (B.seen bus.old) }
-        ensures frame { Leaves self.old self.new result }
+        ensures frame { OutcomeLeaves self.old self.new result }
     {
         let right = right_of(target.kind);
         if target.va % u64::from(target.size) == 0 {
@@ -73,7 +73,7 @@ impl Hart {
         requires room { HasRoomIfTold (B.has_room bus.old) (steps.access (B.seen bus.old) (hart_seen self.old) (target_seen target.now)) }
         ensures outcome { steps.access (B.seen bus.old) (hart_seen self.old) (target_seen target.now) ≡ Some (outcome_seen self.new result) }
         ensures bus { B.seen bus.new ≡ after_access self.old.number (access_of result) (B.seen bus.old) }
-        ensures frame { Leaves self.old self.new result }
+        ensures frame { OutcomeLeaves self.old self.new result }
     {
         let rights = self.rights(self.csrs.data_mode(self.mode));
         match translate(bus, self.csrs.satp(), target.va, right, &rights) {
@@ -101,7 +101,7 @@ impl Hart {
         requires room { HasRoomIfTold (B.has_room bus.old) (steps.performed aim.now.target.kind (B.seen bus.old) (hart_seen self.old) (aim_seen aim.now)) }
         ensures outcome { steps.performed aim.now.target.kind (B.seen bus.old) (hart_seen self.old) (aim_seen aim.now) ≡ Some (outcome_seen self.new result) }
         ensures bus { B.seen bus.new ≡ after_access self.old.number (access_of result) (B.seen bus.old) }
-        ensures frame { Leaves self.old self.new result }
+        ensures frame { OutcomeLeaves self.old self.new result }
     {
         match aim.target.kind {
             AccessKind::Load => self.load(bus, aim),
@@ -138,7 +138,7 @@ impl Hart {
         requires room { HasRoomIfTold (B.has_room bus.old) (steps.performed AccessKind.Lr (B.seen bus.old) (hart_seen self.old) (aim_seen aim.now)) }
         ensures outcome { steps.performed AccessKind.Lr (B.seen bus.old) (hart_seen self.old) (aim_seen aim.now) ≡ Some (outcome_seen self.new result) }
         ensures bus { B.seen bus.new ≡ after_access self.old.number (access_of result) (B.seen bus.old) }
-        ensures frame { Leaves self.old self.new result }
+        ensures frame { OutcomeLeaves self.old self.new result }
     {
         let Some(number) = bus.load(aim.pa, aim.target.size) else {
             return aim.lacks_ram();
@@ -197,7 +197,7 @@ impl Hart {
         requires room { HasRoomIfTold (B.has_room bus.old) (steps.performed AccessKind.Sc (B.seen bus.old) (hart_seen self.old) (aim_seen aim.now)) }
         ensures outcome { steps.performed AccessKind.Sc (B.seen bus.old) (hart_seen self.old) (aim_seen aim.now) ≡ Some (outcome_seen self.new result) }
         ensures bus { B.seen bus.new ≡ after_access self.old.number (access_of result) (B.seen bus.old) }
-        ensures frame { Leaves self.old self.new result }
+        ensures frame { OutcomeLeaves self.old self.new result }
     {
         let value = aim.stored();
         if !self.succeeds(bus, aim) {

@@ -4,7 +4,7 @@ ghost use Rattle.std.specs.Prelude.{◌≡◌};
 ghost use Rattle.rv_fields.specs.Step.{goes, traps, illegal, jump, branch, behind, moved_by};
 ghost use Rattle.rv_step.specs.declared.hart.Hart.{Hart};
 ghost use Rattle.rv_step.specs.Views.{hart_seen, outcome_seen};
-ghost use Rattle.rv_step.specs.Frames.{access_of, Leaves};
+ghost use Rattle.rv_step.specs.Frames.{access_of, OutcomeLeaves};
 
 use crate::hart::Hart;
 use rv_fields::Accessed;
@@ -36,7 +36,7 @@ impl Hart {
     pub(crate) fn goes(&self, value: Option<u64>, next: u64) -> Outcome
         ensures outcome { outcome_seen self.now result ≡ goes (hart_seen self.now) value next }
         ensures nothing { access_of result ≡ None }
-        ensures frame { Leaves self.now self.now result }
+        ensures frame { OutcomeLeaves self.now self.now result }
     {
         Outcome::Retires(Done {
             value,
@@ -50,7 +50,7 @@ impl Hart {
     pub(crate) fn jump(&self, value: Option<u64>, target: u64) -> Outcome
         ensures outcome { outcome_seen self.now result ≡ jump (hart_seen self.now) value target }
         ensures nothing { access_of result ≡ None }
-        ensures frame { Leaves self.now self.now result }
+        ensures frame { OutcomeLeaves self.now self.now result }
     {
         if target % 4 == 0 {
             self.goes(value, target)
@@ -62,7 +62,7 @@ impl Hart {
     pub(crate) fn branch(&self, taken: bool, target: u64) -> Outcome
         ensures outcome { outcome_seen self.now result ≡ branch (hart_seen self.now) taken target }
         ensures nothing { access_of result ≡ None }
-        ensures frame { Leaves self.now self.now result }
+        ensures frame { OutcomeLeaves self.now self.now result }
     {
         if taken {
             self.jump(None, target)
@@ -82,7 +82,7 @@ impl Hart {
 pub(crate) fn traps(cause: u64, tval: u64) -> Outcome
     ensures outcome { (h : Hart) → outcome_seen h result ≡ traps cause tval }
     ensures nothing { access_of result ≡ None }
-    ensures frame { (h : Hart) → Leaves h h result }
+    ensures frame { (h : Hart) → OutcomeLeaves h h result }
 {
     Outcome::Raises {
         cause,
@@ -95,7 +95,7 @@ pub(crate) fn traps(cause: u64, tval: u64) -> Outcome
 pub(crate) fn illegal(word: u32) -> Outcome
     ensures outcome { (h : Hart) → outcome_seen h result ≡ illegal word }
     ensures nothing { access_of result ≡ None }
-    ensures frame { (h : Hart) → Leaves h h result }
+    ensures frame { (h : Hart) → OutcomeLeaves h h result }
 {
     traps(2, word.into())
 }

@@ -10,14 +10,14 @@ use Rattle.rv_fields.specs.Decode.{Decoded, ins_at, fields_of}
 use Rattle.rv_fields.proofs.OneRow.{place_of}
 use Rattle.rv_fields.proofs.OneRow as one
 use Rattle.rv_table.specs.declared.table.Entry.{Entry}
-use Rattle.rv_table.specs.Listing.{Listed, listed, defined}
+use Rattle.rv_table.specs.Listing.{Listed, listed_entry, defined}
 
 abbrev pub decoded_as : Ins → Ops → Decoded
 decoded_as ins ops = record { ins = ins; ops = ops }
 
 -- the lines are the manual's rows, in the table's order
 abbrev pub IsTable : List Entry → Type 0
-IsTable lines = map listed lines ≡ map defined all_ins
+IsTable lines = map listed_entry lines ≡ map defined all_ins
 
 -- ---- the first line that passes
 
@@ -31,8 +31,8 @@ first-map f p (x ∷ xs) =
 
 -- the first line that passes has the first instruction whose row passes, with that row
 pub first_is : (p : Listed → Bool) (lines : List Entry) → IsTable lines
-    → option_map listed (find (λ e. p (listed e)) lines) ≡ option_map defined (find (λ i. p (defined i)) all_ins)
-first_is p lines is = sym (first-map listed p lines) ∙ ap (find p) is ∙ first-map defined p all_ins
+    → option_map listed_entry (find (λ e. p (listed_entry e)) lines) ≡ option_map defined (find (λ i. p (defined i)) all_ins)
+first_is p lines is = sym (first-map listed_entry p lines) ∙ ap (find p) is ∙ first-map defined p all_ins
 
 -- ---- the line of an instruction
 
@@ -42,17 +42,17 @@ get-map f (y ∷ ys) zero x e = let y-is : y ≡ x = cc in rw y-is refl
 get-map f (y ∷ ys) (suc n) x e = get-map f ys n x e
 
 -- the line at an instruction's number has its row
-pub entry_is : (lines : List Entry) (i : Ins) (e : Entry) → IsTable lines → slice_get lines (place_of i) ≡ Some e → listed e ≡ defined i
+pub entry_is : (lines : List Entry) (i : Ins) (e : Entry) → IsTable lines → slice_get lines (place_of i) ≡ Some e → listed_entry e ≡ defined i
 entry_is lines i e is at =
-    let read : Some (listed e) ≡ Some (defined i) =
-    sym (get-map listed lines (place_of i) e at) ∙ ap (λ ls. slice_get ls (place_of i)) is ∙ get-map defined all_ins (place_of i) i (one.listed i) in
+    let read : Some (listed_entry e) ≡ Some (defined i) =
+    sym (get-map listed_entry lines (place_of i) e at) ∙ ap (λ ls. slice_get ls (place_of i)) is ∙ get-map defined all_ins (place_of i) i (one.listed i) in
     cc
 
 -- ---- what a line that is found tells
 
 -- a line found, and the instruction that the manual has there
 abbrev pub IsLineOf : Option Entry → Option Ins → Type 0
-IsLineOf line ins = option_map listed line ≡ option_map defined ins
+IsLineOf line ins = option_map listed_entry line ≡ option_map defined ins
 
 -- the line's instruction is the one there
 pub ins_told : (line : Option Entry) (ins : Option Ins) → IsLineOf line ins → option_map (λ (e : Entry). e.0) line ≡ ins

@@ -11,8 +11,8 @@ pub record Listed : Type 0 where
   pub row : Row
 
 -- the instruction and the row of a line of the table
-abbrev pub listed : Entry → Listed
-listed entry = record { ins = entry.0; row = record { name = entry.2.now; form = entry.1; value = entry.3 } }
+abbrev pub listed_entry : Entry → Listed
+listed_entry entry = record { ins = entry.0; row = record { name = entry.2.now; form = entry.1; value = entry.3 } }
 
 -- the instruction with the row that the manual gives it
 abbrev pub defined : Ins → Listed

@@ -3,7 +3,7 @@ ghost use Rattle.rv_fields.specs.declared.row_table.Ins.{Ins};
 ghost use Rattle.rv_fields.specs.RowTable.{Agrees};
 ghost use Rattle.rv_fields.specs.Decode.{Decoded, decoded, ins_at, fields_of, imm_of};
 ghost use Rattle.rv_fields.specs.Immediate.{bits_of};
-ghost use Rattle.rv_table.specs.Listing.{listed, defined};
+ghost use Rattle.rv_table.specs.Listing.{listed_entry, defined};
 
 use crate::opcodes::candidate;
 use crate::rows::{line_of, mask};
@@ -22,7 +22,7 @@ pub fn decode(word: u32) -> Option<(Ins, Ops)>
 
 /// The line of the table whose row agrees with the word.
 fn entry_of(word: u32) -> Option<Entry>
-    ensures { option_map listed result ≡ option_map defined (ins_at word) }
+    ensures { option_map listed_entry result ≡ option_map defined (ins_at word) }
 {
     let entry = line_of(candidate(word)?);
     if word & mask(entry.1) == entry.3 {

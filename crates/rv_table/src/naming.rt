@@ -1,7 +1,7 @@
 ghost use Rattle.std.specs.Prelude.{◌≡◌, ◌↔◌, Some, find};
 ghost use Rattle.rv_fields.specs.declared.row_table.Ins.{Ins};
 ghost use Rattle.rv_fields.specs.RowTable.{ins_called, name_of};
-ghost use Rattle.rv_table.specs.Listing.{listed, has_name};
+ghost use Rattle.rv_table.specs.Listing.{listed_entry, has_name};
 
 use crate::table::{Entry, entries};
 use rv_fields::Ins;
@@ -17,7 +17,7 @@ pub fn by_name(name: &str) -> Option<Ins>
 
 /// The first line of the table with this name.
 fn first_named(table: &[Entry], name: &str) -> Option<Entry>
-    ensures { result ≡ find (λ entry. has_name name.now (listed entry)) table.now }
+    ensures { result ≡ find (λ entry. has_name name.now (listed_entry entry)) table.now }
 {
     table.iter().copied().find(|entry| entry.2 == name)
 }

@@ -1,7 +1,7 @@
 ghost use Rattle.std.specs.Prelude.{◌≡◌, ◌<◌, Some, length};
 ghost use Rattle.std.specs.List.{slice_get};
 ghost use Rattle.rv_fields.specs.RowTable.{name_of, form_of, mask_of, value_of};
-ghost use Rattle.rv_table.specs.Listing.{listed, defined};
+ghost use Rattle.rv_table.specs.Listing.{listed_entry, defined};
 
 use crate::table::{Entry, Row, entries};
 use rv_fields::{Form, Ins};
@@ -24,7 +24,7 @@ pub fn row(ins: Ins) -> Row
 
 /// The instruction's line of the table.
 pub fn line_of(ins: Ins) -> Entry
-    ensures { listed result ≡ defined ins }
+    ensures { listed_entry result ≡ defined ins }
 {
     entry_at(entries(), ins as usize)
 }

@@ -1,6 +1,6 @@
 ghost use Rattle.std.specs.Prelude.{◌≡◌, map};
 ghost use Rattle.rv_fields.specs.RowTable.{all_ins};
-ghost use Rattle.rv_table.specs.Listing.{listed, defined};
+ghost use Rattle.rv_table.specs.Listing.{listed_entry, defined};
 
 use rv_fields::{Form, Ins};
 
@@ -120,7 +120,7 @@ const INSTRUCTIONS: [Entry; 96] = [
 
 /// The table's lines.
 pub fn entries() -> &'static [Entry]
-    ensures { map listed result.now ≡ map defined all_ins }
+    ensures { map listed_entry result.now ≡ map defined all_ins }
 {
     &INSTRUCTIONS
 }

@@ -17,13 +17,13 @@ pub record Reads (name : List ℕ) (most : ℕ) (old new : State) (result : Resu
   pub longer : result ≡ Ok false → IfSome old.holds (λ held. IsSomeAnd (held name) (λ content. most < length content))
 
 -- what is held under every name but one is as before, and a store that tells goes on telling
-abbrev pub KeepsOthers : List ℕ → Option Held → Option Held → Type 0
-KeepsOthers name old new =
+abbrev pub KeepsAllBut : List ℕ → Option Held → Option Held → Type 0
+KeepsAllBut name old new =
     MatchOption old (new ≡ None) (λ before. IsSomeAnd new (λ now. (other : List ℕ) → other ≢ name → now other ≡ before other))
 
 -- A write of the bytes under the name: every other name holds what it held, and the count of failed reads stays.
 pub record Writes {A : Type 0} (name bytes : List ℕ) (old new : State) (result : Result A StoreFault) : Type 0 where
-  pub others : KeepsOthers name old.holds new.holds
+  pub others : KeepsAllBut name old.holds new.holds
   pub reads : new.read_faults ≡ old.read_faults
   pub counts_up : old.write_faults ≤ new.write_faults
   -- a failed write is counted and named, and no other is

@@ -2,12 +2,12 @@
 use Rattle.std.specs.Prelude.{ℕ, List, Some, None}
 use Rattle.store_face.specs.declared.memory.MemStore.{MemStore}
 use Rattle.store_face.specs.State.{State}
-use Rattle.store_face.specs.Held.{held}
+use Rattle.store_face.specs.Held.{files_held}
 
 -- a store in memory tells what it holds
-abbrev pub state_of : MemStore → State
-state_of store = record {
-  holds = Some (held store.files);
+abbrev pub store_state : MemStore → State
+store_state store = record {
+  holds = Some (files_held store.files);
   read_faults = store.read_faults;
   write_faults = store.write_faults;
   last = store.last.items;

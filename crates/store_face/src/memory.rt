@@ -21,12 +21,12 @@ impl MemStore {
     ghost use Rattle.std.specs.Prelude.{◌≡◌, ◌≢◌, ◌+◌, ◌-◌, ◌^◌, min, List, ℕ, [], Some, None, IsSome, IsTrue, ◌↔◌, true, false, OnErr, IsErr};
     ghost use Rattle.std.specs.List.{Contains};
     ghost use Rattle.store_face.specs.Calls.{Reads, Writes};
-    ghost use Rattle.store_face.specs.Held.{held};
-    ghost use Rattle.store_face.specs.Seen.{state_of};
+    ghost use Rattle.store_face.specs.Held.{files_held};
+    ghost use Rattle.store_face.specs.Seen.{store_state};
 
     /// A store with no file, of which no call fails.
     pub fn new(alloc: Global) -> MemStore
-        ensures files { (name : List ℕ) → held result.files name ≡ None }
+        ensures files { (name : List ℕ) → files_held result.files name ≡ None }
         ensures calls { result.calls ≡ 0 }
         ensures failing { result.failing.items ≡ [] }
         ensures read_faults { result.read_faults ≡ 0 }
@@ -55,17 +55,17 @@ impl MemStore {
 
     /// As `Store::read_whole`.
     pub fn read(&mut self, name: &str, most: usize, into: &mut Vec<u8>) -> Result<bool, StoreFault>
-        ensures reads { Reads name.now most (state_of self.old) (state_of self.new) result into.new.items }
+        ensures reads { Reads name.now most (store_state self.old) (store_state self.new) result into.new.items }
         ensures failing { self.new.failing.items ≡ self.old.failing.items }
         ensures calls { self.new.calls ≡ min (self.old.calls + 1) (2 ^ 64 - 1) }
 
         // A call fails if it is to fail or if there is no such file, and else it doesn't.
         ensures told { Contains self.old.failing.items self.old.calls → IsErr result }
-        ensures missing { held self.old.files name.now ≡ None → IsErr result }
-        ensures else_not { ¬ Contains self.old.failing.items self.old.calls → IsSome (held self.old.files name.now) → result ≢ Err StoreFault.Failed }
+        ensures missing { files_held self.old.files name.now ≡ None → IsErr result }
+        ensures else_not { ¬ Contains self.old.failing.items self.old.calls → IsSome (files_held self.old.files name.now) → result ≢ Err StoreFault.Failed }
 
         ensures one_more { result ≡ Err StoreFault.Failed → self.new.read_faults ≡ min (self.old.read_faults + 1) (2 ^ 64 - 1) }
-        ensures no_fault { result ≢ Err StoreFault.Failed → state_of self.new ≡ state_of self.old }
+        ensures no_fault { result ≢ Err StoreFault.Failed → store_state self.new ≡ store_state self.old }
     {
         if self.is_failing_call() {
             return Err(record_fault(name, &mut self.read_faults, &mut self.last));
@@ -83,8 +83,8 @@ impl MemStore {
 
     /// As `Store::write_whole`.
     pub fn write(&mut self, name: &str, bytes: &[u8]) -> Result<(), StoreFault>
-        ensures writes { Writes name.now bytes.now (state_of self.old) (state_of self.new) result }
-        ensures unchanged { OnErr result (held self.new.files ≡ held self.old.files) }
+        ensures writes { Writes name.now bytes.now (store_state self.old) (store_state self.new) result }
+        ensures unchanged { OnErr result (files_held self.new.files ≡ files_held self.old.files) }
         ensures failing { self.new.failing.items ≡ self.old.failing.items }
         ensures calls { self.new.calls ≡ min (self.old.calls + 1) (2 ^ 64 - 1) }
 
@@ -105,9 +105,9 @@ impl MemStore {
 }
 
 impl Store for MemStore {
-    ghost use Rattle.store_face.specs.Seen.{state_of};
+    ghost use Rattle.store_face.specs.Seen.{store_state};
 
-    ghost state = { state_of };
+    ghost state = { store_state };
 
     fn read_whole(
         &mut self,

@@ -4,7 +4,7 @@ use Rattle.std.specs.Prelude.{suc, zero, ◌==◌, ◌^◌}
 use Rattle.rv_fields.specs.Effect.{Entry}
 use Rattle.region_plan.specs.Plan.{page_size}
 use Rattle.boot_words.specs.Layout.{pte_of, table_at}
-use Rattle.table_space.specs.Tables.{TableSpace, entry_at, points_to_table, way, way_at}
+use Rattle.table_space.specs.Tables.{TableSpace, entry_for_page, points_to_table, way, way_at}
 
 abbrev pub EachEntry : (Entry → Type 0) → List Entry → Type 0
 EachEntry P [] = Unit {0}
@@ -30,4 +30,4 @@ at_agrees space false leaf level made at below each None e = (inl e, tt)
 pub way_agrees : (space : TableSpace) (lies : ℕ → Bool) (leaf page level table made : ℕ) → EachEntry (Agrees space.entries) (way space lies leaf page level table made)
 way_agrees space lies leaf page zero table made = tt
 way_agrees space lies leaf page (suc level) table made =
-    at_agrees space (lies level) leaf level made (entry_at table page level) (way space lies leaf page level) (way_agrees space lies leaf page level) _ refl
+    at_agrees space (lies level) leaf level made (entry_for_page table page level) (way space lies leaf page level) (way_agrees space lies leaf page level) _ refl

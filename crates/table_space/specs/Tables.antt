@@ -17,8 +17,8 @@ pub record TableSpace : Type 0 where
   pub left : ℕ
 
 -- the entry of a level in a table, for a page: 0 is the level of the leaves
-abbrev pub entry_at : ℕ → ℕ → ℕ → ℕ
-entry_at table page level = table + 8 * bits_of page (9 * level) 9
+abbrev pub entry_for_page : ℕ → ℕ → ℕ → ℕ
+entry_for_page table page level = table + 8 * bits_of page (9 * level) 9
 
 -- an entry that points to a table
 abbrev pub points_to_table : ℕ → Bool
@@ -38,7 +38,7 @@ way_at space lies leaf level made at below None =
 abbrev pub way : TableSpace → (ℕ → Bool) → ℕ → ℕ → ℕ → ℕ → ℕ → List Entry
 way space lies leaf page zero table made = []
 way space lies leaf page (suc level) table made =
-    way_at space (lies level) leaf level made (entry_at table page level) (way space lies leaf page level) (space.entries (entry_at table page level))
+    way_at space (lies level) leaf level made (entry_for_page table page level) (way space lies leaf page level) (space.entries (entry_for_page table page level))
 
 -- the whole way from the root
 abbrev pub way_to : TableSpace → (ℕ → Bool) → ℕ → ℕ → List Entry

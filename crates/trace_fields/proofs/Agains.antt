@@ -24,10 +24,10 @@ use Rattle.trace_fields.specs.declared.request.Cause.{Cause}
 use Rattle.trace_fields.specs.declared.request.Cause.TheVariants.{EmptyChoice, BudgetSpent, NoRegister, NoAddress, NoTarget, WindowFull, NoFreePage, NoPlace}
 use Rattle.trace_fields.specs.Letters.{access_letters, mode_letters, letter_of_kind, letter_of_mode, kind_of_letter, mode_of_letter}
 use Rattle.trace_fields.specs.Text.{colon, comma, slash, joined_by, hex, word_text, byte_text, none_text, or_none, kind_text, cause_text, write_text, access_text, entry_text, trail_text, trap_text, letter_text}
-use Rattle.trace_fields.specs.Numbers.{decimal_below, word_of, byte_of}
+use Rattle.trace_fields.specs.Numbers.{decimal_below, word_reading, byte_reading}
 use Rattle.trace_fields.specs.Fields.{is_decimal}
-use Rattle.trace_fields.specs.Readings.{kind_of, cause_of, sizes, preambles, is_any_of, letter_of, name_of, count_of, number_of, hex_of, register_of, space_of, parts_of, all_of, at_most, path_of, pairs_of, bytes_of, optional, sized, write_in, access_in, entry_in, trap_in, write_of, access_of, entry_of, trap_of, trail_of}
-use Rattle.trace_fields.specs.Ranges.{IsAnyOf, IsName, IsWrite, IsAccess, IsEntry, IsTrap, IsPath, AreBytes}
+use Rattle.trace_fields.specs.Readings.{kind_reading, cause_reading, sizes, preambles, is_any_of, letter_reading, name_reading, count_reading, number_reading, hex_reading, register_reading, space_reading, field_parts, all_of, at_most, path_reading, pairs_of, bytes_reading, optional, sized, write_by_parts, access_by_parts, entry_by_parts, trap_by_parts, write_reading, access_reading, entry_reading, trap_reading, trail_reading}
+use Rattle.trace_fields.specs.Ranges.{IsAnyOf, IsName, IsWrite, IsAccess, IsEntry, IsTrap, IsPath, AreFixedBytes}
 use Rattle.trace_fields.proofs.Spelled as spelled
 use Rattle.trace_fields.proofs.Joins.{all_weaken, all_map, joined_all, Lacks, parts_again}
 use Rattle.trace_fields.proofs.WordBytes.{IsWord, decimal_word, hex_word, name_word, access_letter_word, mode_letter_word, access_letter_is, mode_letter_is, kind_letter, mode_letter, any_holds, word_lacks, word_is_something}
@@ -38,19 +38,19 @@ use Rattle.trace_fields.proofs.Backs.{value_told, texts_joined, trap_parts, acce
 pub hart_again : (harts : ℕ) → harts ≤ 2 ^ 64 → (h : ℕ) → h < harts → decimal_below harts (decimal h) ≡ Some h
 hart_again harts most h below = spelled.decimal_again harts h below most
 
-pub count_again : (n : ℕ) → n < 2 ^ 32 → count_of (decimal n) ≡ Some n
+pub count_again : (n : ℕ) → n < 2 ^ 32 → count_reading (decimal n) ≡ Some n
 count_again n below = spelled.decimal_again (2 ^ 32) n below (omega arith)
 
-pub hex_again : (n : ℕ) → n < 2 ^ 64 → hex_of (hex n) ≡ Some n
+pub hex_again : (n : ℕ) → n < 2 ^ 64 → hex_reading (hex n) ≡ Some n
 hex_again n below = spelled.hex_again (2 ^ 64) n below (omega arith)
 
-pub space_again : (n : ℕ) → n < 16 → space_of (decimal n) ≡ Some n
+pub space_again : (n : ℕ) → n < 16 → space_reading (decimal n) ≡ Some n
 space_again n below = spelled.decimal_again 16 n below (omega arith)
 
-pub word_again : (w : ℕ) → w < 2 ^ 32 → word_of (word_text w) ≡ Some w
+pub word_again : (w : ℕ) → w < 2 ^ 32 → word_reading (word_text w) ≡ Some w
 word_again w below = spelled.wide_again 8 w (omega arith) (omega arith) below
 
-pub byte_again : (b : ℕ) → b < 2 ^ 8 → byte_of (byte_text b) ≡ Some b
+pub byte_again : (b : ℕ) → b < 2 ^ 8 → byte_reading (byte_text b) ≡ Some b
 byte_again b below = spelled.wide_again 2 b (omega arith) (omega arith) below
 
 -- a number of any size of an access fits 64 bits
@@ -60,7 +60,7 @@ size_fits size is = any_holds (λ s. 2 ^ (8 * s) ≤ 2 ^ 64) sizes size (omega a
 pub sized_again : (size : ℕ) → IsAnyOf sizes size → (n : ℕ) → n < 2 ^ (8 * size) → sized size (hex n) ≡ Some n
 sized_again size is n below = spelled.hex_again (2 ^ (8 * size)) n below (size_fits size is)
 
-pub register_again : (r : ℕ) → (1 ≤ r) × (r < 32) → register_of (decimal r) ≡ Some r
+pub register_again : (r : ℕ) → (1 ≤ r) × (r < 32) → register_reading (decimal r) ≡ Some r
 register_again r fits =
     let read : decimal_below 32 (decimal r) ≡ Some r = spelled.decimal_again 32 r fits.1 (omega arith) in
     let test : is_decimal 1 32 (decimal r) ≡ true =
@@ -68,30 +68,30 @@ register_again r fits =
     cond-true (is_decimal 1 32 (decimal r)) (Some (digits_value 10 (decimal r))) None test
     ∙ ap Some (value_told decimal 10 32 (decimal r) r read)
 
-pub number_again : (numbers : List ℕ) (n : ℕ) → n < 2 ^ 32 → IsAnyOf numbers n → number_of numbers (decimal n) ≡ Some n
+pub number_again : (numbers : List ℕ) (n : ℕ) → n < 2 ^ 32 → IsAnyOf numbers n → number_reading numbers (decimal n) ≡ Some n
 number_again numbers n below is =
     ap (λ o. o >>= (λ m. cond (is_any_of numbers m) (Some m) None)) (count_again n below) ∙ cond-true (is_any_of numbers n) (Some n) None is
 
-pub preamble_again : (n : ℕ) → IsAnyOf preambles n → number_of preambles (decimal n) ≡ Some n
+pub preamble_again : (n : ℕ) → IsAnyOf preambles n → number_reading preambles (decimal n) ≡ Some n
 preamble_again n is = number_again preambles n (any_holds (λ m. m < 2 ^ 32) preambles n (omega arith) is) is
 
 pub size_small : (n : ℕ) → IsAnyOf sizes n → n < 2 ^ 32
 size_small n is = any_holds (λ m. m < 2 ^ 32) sizes n (omega arith) is
 
-pub size_again : (n : ℕ) → IsAnyOf sizes n → number_of sizes (decimal n) ≡ Some n
+pub size_again : (n : ℕ) → IsAnyOf sizes n → number_reading sizes (decimal n) ≡ Some n
 size_again n is = number_again sizes n (size_small n is) is
 
 -- Letters and names.
 
-letter_again : (letters : List ℕ) (l : ℕ) → letter_text l ≡ l ∷ [] → IsAnyOf letters l → letter_of letters (letter_text l) ≡ Some l
-letter_again letters l same is = ap (letter_of letters) same ∙ cond-true (is_any_of letters l) (Some l) None is
+letter_again : (letters : List ℕ) (l : ℕ) → letter_text l ≡ l ∷ [] → IsAnyOf letters l → letter_reading letters (letter_text l) ≡ Some l
+letter_again letters l same is = ap (letter_reading letters) same ∙ cond-true (is_any_of letters l) (Some l) None is
 
-pub access_letter_again : (k : AccessKind) → letter_of access_letters (letter_text (letter_of_kind k)) ≡ Some (letter_of_kind k)
+pub access_letter_again : (k : AccessKind) → letter_reading access_letters (letter_text (letter_of_kind k)) ≡ Some (letter_of_kind k)
 access_letter_again k =
     let is = kind_letter k in
     letter_again access_letters (letter_of_kind k) (access_letter_is (letter_of_kind k) is) is
 
-pub mode_letter_again : (m : Mode) → m ≢ U → letter_of mode_letters (letter_text (letter_of_mode m)) ≡ Some (letter_of_mode m)
+pub mode_letter_again : (m : Mode) → m ≢ U → letter_reading mode_letters (letter_text (letter_of_mode m)) ≡ Some (letter_of_mode m)
 mode_letter_again m other =
     let is = mode_letter m other in
     letter_again mode_letters (letter_of_mode m) (mode_letter_is (letter_of_mode m) is) is
@@ -110,10 +110,10 @@ mode_again_of_letter U other = absurd (other refl)
 mode_again_of_letter S other = refl
 mode_again_of_letter M other = refl
 
-pub name_again : (name : Name) → IsName name → name_of name ≡ Some name
+pub name_again : (name : Name) → IsName name → name_reading name ≡ Some name
 name_again name is = cond-true (is_name name) (Some name) None is
 
-pub kind_again : (k : Kind) → kind_of (kind_text k) ≡ Some k
+pub kind_again : (k : Kind) → kind_reading (kind_text k) ≡ Some k
 kind_again Ins = refl
 kind_again Mem = refl
 kind_again Jump = refl
@@ -124,7 +124,7 @@ kind_again Loop = refl
 kind_again Pick = refl
 kind_again Set = refl
 
-pub cause_again : (c : Cause) → cause_of (cause_text c) ≡ Some c
+pub cause_again : (c : Cause) → cause_reading (cause_text c) ≡ Some c
 cause_again EmptyChoice = refl
 cause_again BudgetSpent = refl
 cause_again NoRegister = refl
@@ -166,11 +166,11 @@ module _ {A : Type 0} (text : A → List ℕ) (reading : List ℕ → Option A) 
 pub slash_free : (text : List ℕ) → IsWord text → Lacks slash text
 slash_free text word = word_lacks slash (λ b is. is.no_slash) text word
 
-pub path_again : (path : List Name) → IsPath path → path_of (joined_by slash path) ≡ Some path
+pub path_again : (path : List Name) → IsPath path → path_reading (joined_by slash path) ≡ Some path
 path_again path is =
     let lack = all_weaken IsName (Lacks slash) (λ name named. slash_free name (name_word name named)) path is.named in
-    ap (at_most 8 name_of) (parts_again slash path is.some lack ∙ sym (map-id path))
-    ∙ at_most_again (λ name. name) name_of IsName name_again 8 path is.short is.named
+    ap (at_most 8 name_reading) (parts_again slash path is.some lack ∙ sym (map-id path))
+    ∙ at_most_again (λ name. name) name_reading IsName name_again 8 path is.short is.named
 
 pairs_again : (texts : List (List ℕ)) → AllByRecursion (λ (text : List ℕ). length text ≡ 2) texts → pairs_of (flat_map (λ text. text) texts) ≡ texts
 pairs_again [] all = refl
@@ -179,11 +179,11 @@ pairs_again ((a ∷ []) ∷ rest) all = absurd (omega (arith, all.0))
 pairs_again ((a ∷ b ∷ []) ∷ rest) all = ap (λ (l : List (List ℕ)). (a ∷ b ∷ []) ∷ l) (pairs_again rest all.1)
 pairs_again ((a ∷ b ∷ c ∷ more) ∷ rest) all = absurd (omega (arith, all.0))
 
-some_field : (field : List ℕ) (pairs : List (List ℕ)) → pairs_of field ≡ pairs → 1 ≤ length pairs → bytes_of field ≡ at_most 8 byte_of pairs
+some_field : (field : List ℕ) (pairs : List (List ℕ)) → pairs_of field ≡ pairs → 1 ≤ length pairs → bytes_reading field ≡ at_most 8 byte_reading pairs
 some_field [] pairs are some = absurd (omega (arith, ap length are))
-some_field (b ∷ bs) pairs are some = ap (at_most 8 byte_of) are
+some_field (b ∷ bs) pairs are some = ap (at_most 8 byte_reading) are
 
-pub bytes_again : (bytes : List ℕ) → AreBytes bytes → bytes_of (flat_map byte_text bytes) ≡ Some bytes
+pub bytes_again : (bytes : List ℕ) → AreFixedBytes bytes → bytes_reading (flat_map byte_text bytes) ≡ Some bytes
 bytes_again bytes are =
     let pairs = map byte_text bytes in
     let two = all_map (λ (text : List ℕ). length text ≡ 2) byte_text bytes
@@ -191,28 +191,28 @@ bytes_again bytes are =
     let cut : pairs_of (flat_map byte_text bytes) ≡ pairs = ap pairs_of (texts_joined byte_text bytes) ∙ pairs_again pairs two in
     let long : length pairs ≡ length bytes = length-map bytes byte_text in
     some_field (flat_map byte_text bytes) pairs cut (omega (arith, are.some))
-    ∙ at_most_again byte_text byte_of (λ b. b < 2 ^ 8) byte_again 8 bytes are.short are.small
+    ∙ at_most_again byte_text byte_reading (λ b. b < 2 ^ 8) byte_again 8 bytes are.short are.small
 
 -- Fields of parts.
 
 pub colon_free : (text : List ℕ) → IsWord text → Lacks colon text
 colon_free text word = word_lacks colon (λ b is. is.no_colon) text word
 
-pub write_again : (w : ℕ × ℕ) → IsWrite w → write_of (write_text w) ≡ Some w
+pub write_again : (w : ℕ × ℕ) → IsWrite w → write_reading (write_text w) ≡ Some w
 write_again w is =
     let one = decimal_word w.0 (omega (arith, is.register)) in
     let two = hex_word w.1 is.value in
-    ap write_in (parts_again colon (decimal w.0 ∷ hex w.1 ∷ []) (omega arith) (colon_free (decimal w.0) one, (colon_free (hex w.1) two, tt)))
+    ap write_by_parts (parts_again colon (decimal w.0 ∷ hex w.1 ∷ []) (omega arith) (colon_free (decimal w.0) one, (colon_free (hex w.1) two, tt)))
     ∙ (λ i. register_again w.0 (is.some, is.register) i >>= (λ r. hex_again w.1 is.value i >>= (λ v. Some (r, v))))
 
 pub write_is_something : (w : ℕ × ℕ) → IsWrite w → write_text w ≡ none_text → ⊥
 write_is_something w is none = word_is_something (decimal w.0) (colon ∷ hex w.1) (decimal_word w.0 (omega (arith, is.register))) none
 
-pub entry_again : (e : Entry) → IsEntry e → entry_of (entry_text e) ≡ Some e
+pub entry_again : (e : Entry) → IsEntry e → entry_reading (entry_text e) ≡ Some e
 entry_again e is =
     let one = hex_word e.at is.at in
     let two = hex_word e.pte is.pte in
-    ap entry_in (parts_again colon (hex e.at ∷ hex e.pte ∷ []) (omega arith) (colon_free (hex e.at) one, (colon_free (hex e.pte) two, tt)))
+    ap entry_by_parts (parts_again colon (hex e.at ∷ hex e.pte ∷ []) (omega arith) (colon_free (hex e.at) one, (colon_free (hex e.pte) two, tt)))
     ∙ (λ i. hex_again e.at is.at i >>= (λ a. hex_again e.pte is.pte i >>= (λ p. Some (record { at = a; pte = p }))))
 
 trap_free : (t : Trap) → IsTrap t → AllByRecursion (Lacks colon) (trap_parts t)
@@ -224,9 +224,9 @@ trap_free t is = (
   ),
 )
 
-pub trap_again : (t : Trap) → IsTrap t → trap_of (trap_text t) ≡ Some t
+pub trap_again : (t : Trap) → IsTrap t → trap_reading (trap_text t) ≡ Some t
 trap_again t is =
-    ap trap_in (parts_again colon (trap_parts t) (omega arith) (trap_free t is))
+    ap trap_by_parts (parts_again colon (trap_parts t) (omega arith) (trap_free t is))
     ∙ (λ i. space_again t.cause is.cause i >>= (λ c. hex_again t.epc is.epc i >>= (λ e. hex_again t.tval is.tval i >>= (λ v.
     mode_letter_again t.to is.to i >>= (λ m. Some (record { cause = c; epc = e; tval = v; to = mode_of_letter m }))))))
     ∙ ap (λ m. Some (record t { to = m })) (mode_again_of_letter t.to is.to)
@@ -263,7 +263,7 @@ access_free a is =
       ),
     )
 
-access_in_again : (a : Accessed) → IsAccess a → access_in (access_parts a) ≡ Some a
+access_in_again : (a : Accessed) → IsAccess a → access_by_parts (access_parts a) ≡ Some a
 access_in_again a is =
     let read = or_none hex a.read in
     let wrote = or_none hex a.wrote in
@@ -274,8 +274,8 @@ access_in_again a is =
     Some (record a { kind = kind_of_letter (letter_of_kind a.kind); read = r; wrote = w }))))
     ∙ ap (λ k. Some (record a { kind = k })) (kind_again_of_letter a.kind)
 
-pub access_again : (a : Accessed) → IsAccess a → access_of (access_text a) ≡ Some a
-access_again a is = ap access_in (parts_again colon (access_parts a) (omega arith) (access_free a is)) ∙ access_in_again a is
+pub access_again : (a : Accessed) → IsAccess a → access_reading (access_text a) ≡ Some a
+access_again a is = ap access_by_parts (parts_again colon (access_parts a) (omega arith) (access_free a is)) ∙ access_in_again a is
 
 pub access_is_something : (a : Accessed) → IsAccess a → access_text a ≡ none_text → ⊥
 access_is_something a is none = word_is_something (letter_text (letter_of_kind a.kind)) _ (access_letter_word a.kind) none
@@ -297,13 +297,13 @@ trail_is_something e (next ∷ es) is none =
     word_is_something (hex e.at) ((colon ∷ hex e.pte) ++ behind) (hex_word e.at is.at)
     (sym (append_assoc (hex e.at) (colon ∷ hex e.pte) behind) ∙ none)
 
-pub trail_again : (trail : List Entry) → (length trail ≤ 4) × AllByRecursion IsEntry trail → trail_of (trail_text trail) ≡ Some trail
+pub trail_again : (trail : List Entry) → (length trail ≤ 4) × AllByRecursion IsEntry trail → trail_reading (trail_text trail) ≡ Some trail
 trail_again [] is = refl
 trail_again (e ∷ es) is =
     let field = trail_text (e ∷ es) in
     let test : bytes_eq field none_text ≡ false =
     false_from_ne_true (bytes_eq field none_text) (λ same. trail_is_something e es is.1.0 ((bytes_eq-Decides field none_text).0 same)) in
     let lack = all_map (Lacks comma) entry_text (e ∷ es) (all_weaken IsEntry (λ e. Lacks comma (entry_text e)) entry_comma_free (e ∷ es) is.1) in
-    cond-false (bytes_eq field none_text) (Some []) (at_most 4 entry_of (parts_of comma field)) test
-    ∙ ap (at_most 4 entry_of) (parts_again comma (map entry_text (e ∷ es)) (omega arith) lack)
-    ∙ at_most_again entry_text entry_of IsEntry entry_again 4 (e ∷ es) is.0 is.1
+    cond-false (bytes_eq field none_text) (Some []) (at_most 4 entry_reading (field_parts comma field)) test
+    ∙ ap (at_most 4 entry_reading) (parts_again comma (map entry_text (e ∷ es)) (omega arith) lack)
+    ∙ at_most_again entry_text entry_reading IsEntry entry_again 4 (e ∷ es) is.0 is.1

@@ -2,7 +2,7 @@
 use Rattle.std.proofs.Common.{◌≡◌, ◌^◌, refl, Some, None}
 use Rattle.std.specs.Prelude.{◌-◌, codes}
 use Rattle.std.specs.Fmt.{digits}
-use Rattle.trace_fields.specs.Numbers.{decimal_below, hex_below, word_of, byte_of}
+use Rattle.trace_fields.specs.Numbers.{decimal_below, hex_below, word_reading, byte_reading}
 
 pub decimals : (decimal_below (2 ^ 64) (codes "0") ≡ Some 0) × (decimal_below (2 ^ 64) (codes "18446744073709551615") ≡ Some (2 ^ 64 - 1))
     × (decimal_below 32 (codes "31") ≡ Some 31) × (decimal_below 32 (codes "32") ≡ None) × (decimal_below 32 (codes "031") ≡ None)
@@ -18,13 +18,13 @@ pub hexes : (hex_below (2 ^ 64) (codes "0") ≡ Some 0) × (hex_below (2 ^ 64) (
 unfolding digits
 hexes = (refl, refl, refl, refl, refl, refl, refl, refl, refl, refl, refl, refl)
 
-pub words : (word_of (codes "0000b083") ≡ Some 0xb083) × (word_of (codes "00000000") ≡ Some 0) × (word_of (codes "ffffffff") ≡ Some 0xffff_ffff)
-    × (word_of (codes "b083") ≡ None) × (word_of (codes "00000b083") ≡ None) × (word_of (codes "0000B083") ≡ None)
-    × (word_of (codes "+000b083") ≡ None) × (word_of (codes "0000b08g") ≡ None) × (word_of (codes "") ≡ None)
+pub words : (word_reading (codes "0000b083") ≡ Some 0xb083) × (word_reading (codes "00000000") ≡ Some 0) × (word_reading (codes "ffffffff") ≡ Some 0xffff_ffff)
+    × (word_reading (codes "b083") ≡ None) × (word_reading (codes "00000b083") ≡ None) × (word_reading (codes "0000B083") ≡ None)
+    × (word_reading (codes "+000b083") ≡ None) × (word_reading (codes "0000b08g") ≡ None) × (word_reading (codes "") ≡ None)
 unfolding digits
 words = (refl, refl, refl, refl, refl, refl, refl, refl, refl)
 
-pub bytes : (byte_of (codes "00") ≡ Some 0) × (byte_of (codes "0a") ≡ Some 10) × (byte_of (codes "ff") ≡ Some 0xff) × (byte_of (codes "a") ≡ None)
-    × (byte_of (codes "00a") ≡ None) × (byte_of (codes "0A") ≡ None) × (byte_of (codes "+a") ≡ None) × (byte_of (codes "") ≡ None)
+pub bytes : (byte_reading (codes "00") ≡ Some 0) × (byte_reading (codes "0a") ≡ Some 10) × (byte_reading (codes "ff") ≡ Some 0xff) × (byte_reading (codes "a") ≡ None)
+    × (byte_reading (codes "00a") ≡ None) × (byte_reading (codes "0A") ≡ None) × (byte_reading (codes "+a") ≡ None) × (byte_reading (codes "") ≡ None)
 unfolding digits
 bytes = (refl, refl, refl, refl, refl, refl, refl, refl)

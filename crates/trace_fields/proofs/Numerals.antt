@@ -16,7 +16,7 @@ use Rattle.std.proofs.lemmas.Fmt.{digits_is_IsNumeral}
 use Rattle.std.proofs.lemmas.Int.Digits.{digits_value-lt}
 use Rattle.std.proofs.lemmas.Option.{none-some, same_Some}
 use Rattle.trace_fields.specs.Text.{wide_hex}
-use Rattle.trace_fields.specs.Numbers.{spelled_by, number_below, wide_hex_of, is_plain, is_lower}
+use Rattle.trace_fields.specs.Numbers.{spelled_by, number_below, wide_hex_reading, is_plain, is_lower}
 use Rattle.trace_fields.proofs.Bases.{AreDigits, digits_are, digits_plain, no_plus, plain_digits, wide_digits, wide_are, within_16_digits, length-wide_hex}
 
 module _ (spelling : ℕ → List ℕ) (base bound : ℕ) (field : List ℕ) where
@@ -142,14 +142,14 @@ module _ (width : ℕ) (some : 0 < width) (narrow : width ≤ 16) (field : List 
       )
 
   pub wide_read : (r : Option ℕ) → length field ≡ width → starts_with eqb field (43 ∷ []) ≡ false → is_lower field ≡ true
-      → IsParsed 16 (without_leading_plus field) r → r ≡ wide_hex_of width field
+      → IsParsed 16 (without_leading_plus field) r → r ≡ wide_hex_reading width field
   wide_read r long front lower gives =
       read (wide_hex width) 16 (16 ^ width) field (IsNumeral 16 field × (digits_value 16 field < 2 ^ 64)) r
       (subst (λ ds. IsParsed 16 ds r) (front_is_first field front) gives)
       (λ is. wide_spells long lower is.0.1)
       (λ is. ((omega arith, (spells_wide is).1.digits), within_16_digits width (digits_value 16 field) narrow is.0))
 
-  pub wide_unread : (length field ≡ width → starts_with eqb field (43 ∷ []) ≡ false → is_lower field ≡ false) → None ≡ wide_hex_of width field
+  pub wide_unread : (length field ≡ width → starts_with eqb field (43 ∷ []) ≡ false → is_lower field ≡ false) → None ≡ wide_hex_reading width field
   wide_unread fails = sym (unspelled (wide_hex width) 16 (16 ^ width) field (λ is.
       let parts = spells_wide is in
       both_ways (is_lower field) (fails parts.0 (digits_without_plus field parts.1.digits)) parts.1.lower))

@@ -11,7 +11,7 @@ use Rattle.std.proofs.lemmas.Fmt.{decimal_is_IsNumeral}
 pub use Rattle.std.proofs.lemmas.Fmt.{decimal_nonempty}
 use Rattle.std.proofs.lemmas.List.Elements.{All-nil, All-cons}
 use Rattle.trace_fields.specs.Text.{hex, wide_hex}
-use Rattle.trace_fields.specs.Numbers.{decimal_below, hex_below, wide_hex_of, is_lower}
+use Rattle.trace_fields.specs.Numbers.{decimal_below, hex_below, wide_hex_reading, is_lower}
 use Rattle.trace_fields.proofs.Bases.{AreDigits, lower_byte, digits_are, hex_numeral, hex_are, wide_are, wide_value, within_16_digits}
 pub use Rattle.trace_fields.proofs.Bases.{length-wide_hex}
 use Rattle.trace_fields.proofs.Numerals.{found, again}
@@ -22,7 +22,7 @@ decimal_back bound n f is = let parts = found (digits 10 false) 10 bound f n is 
 pub hex_back : (bound n : ℕ) (f : List ℕ) → hex_below bound f ≡ Some n → (n < bound) × (hex n ≡ f)
 hex_back bound n f is = let parts = found (digits 16 false) 16 bound f n is in (parts.1, parts.2)
 
-pub wide_back : (width n : ℕ) (f : List ℕ) → wide_hex_of width f ≡ Some n → (n < 16 ^ width) × (wide_hex width n ≡ f)
+pub wide_back : (width n : ℕ) (f : List ℕ) → wide_hex_reading width f ≡ Some n → (n < 16 ^ width) × (wide_hex width n ≡ f)
 wide_back width n f is = let parts = found (wide_hex width) 16 (16 ^ width) f n is in (parts.1, parts.2)
 
 pub decimal_again : (bound n : ℕ) → n < bound → bound ≤ 2 ^ 64 → decimal_below bound (decimal n) ≡ Some n
@@ -31,7 +31,7 @@ decimal_again bound n below most = again (digits 10 false) 10 bound n (decimal_i
 pub hex_again : (bound n : ℕ) → n < bound → bound ≤ 2 ^ 64 → hex_below bound (hex n) ≡ Some n
 hex_again bound n below most = again (digits 16 false) 16 bound n (hex_numeral n (omega arith)).1 below
 
-pub wide_again : (width n : ℕ) → 0 < width → width ≤ 16 → n < 16 ^ width → wide_hex_of width (wide_hex width n) ≡ Some n
+pub wide_again : (width n : ℕ) → 0 < width → width ≤ 16 → n < 16 ^ width → wide_hex_reading width (wide_hex width n) ≡ Some n
 wide_again width n some narrow below = again (wide_hex width) 16 (16 ^ width) n (wide_value width n (within_16_digits width n narrow below)) below
 
 -- a decimal digit, or a letter that is a hexadecimal digit

@@ -6,16 +6,16 @@ use Rattle.std.specs.Option.{is_some, ok_or, option_map}
 use Rattle.trace_fields.specs.declared.fields.Fields.{Fields}
 use Rattle.trace_fields.specs.declared.fault.LineFault.{LineFault}
 use Rattle.trace_fields.specs.declared.fault.LineFault.TheVariants.{At}
-use Rattle.trace_fields.specs.Fields.{Place, Test, first_wrong, tells, is_word}
+use Rattle.trace_fields.specs.Fields.{Place, FieldTest, first_wrong, tells, is_word}
 use Rattle.trace_fields.specs.Taking.{Left, left, wrong_by, IsFault, IsWrongBy, Took, Passed, Lacks, Takes}
 use Rattle.std.proofs.lemmas.Slice.Eq.{bytes_eq-Decides}
 
 -- the fault is in the next field
-pub lacks_here : {test : Test} {tests : List Test} {old : Fields} {fault : LineFault} → Lacks test old fault → IsWrongBy (test ∷ tests) (left old) fault
+pub lacks_here : {test : FieldTest} {tests : List FieldTest} {old : Fields} {fault : LineFault} → Lacks test old fault → IsWrongBy (test ∷ tests) (left old) fault
 lacks_here {test} {tests} {old} {fault} lacks = record { is = lacks.is tests }
 
 -- what is wrong behind a field that passes
-wrong_behind : (test : Test) (tests : List Test) (old new : Fields) (field : List ℕ) → Passed test old new field
+wrong_behind : (test : FieldTest) (tests : List FieldTest) (old new : Fields) (field : List ℕ) → Passed test old new field
     → wrong_by (test ∷ tests) (left old) ≡ wrong_by tests (left new)
 wrong_behind test tests old new field passed =
     let place : ℕ → ℕ → Place = λ line f. record { line = line; field = f } in
@@ -27,13 +27,13 @@ wrong_behind test tests old new field passed =
     ∙ ap (λ line. option_map (place line) (first_wrong (left new).number tests rest)) (sym passed.took.line)
 
 -- or the fault is behind a field that passes
-pub behind : {test : Test} {tests : List Test} {old new : Fields} {field : List ℕ} {fault : LineFault}
+pub behind : {test : FieldTest} {tests : List FieldTest} {old new : Fields} {field : List ℕ} {fault : LineFault}
     → Passed test old new field → IsWrongBy tests (left new) fault → IsWrongBy (test ∷ tests) (left old) fault
 behind {test} {tests} {old} {new} {field} {fault} passed wrong =
     record { is = subst (λ w. IsFault w fault) (sym (wrong_behind test tests old new field passed)) wrong.is }
 
 -- the fault of a whole line is that of what is left at its start
-pub from_start : {tests : List Test} {start line : Left} {fault : LineFault} → start ≡ line → IsWrongBy tests start fault → IsWrongBy tests line fault
+pub from_start : {tests : List FieldTest} {start line : Left} {fault : LineFault} → start ≡ line → IsWrongBy tests start fault → IsWrongBy tests line fault
 from_start {tests} {start} {line} {fault} is wrong = subst (λ l. IsWrongBy tests l fault) is wrong
 
 -- what holds of the fault that an answer hands on

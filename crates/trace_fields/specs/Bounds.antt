@@ -30,8 +30,8 @@ trap_bound = 16
 abbrev pub most_labels : ℕ
 most_labels = 8
 
-abbrev pub most_bytes : ℕ
-most_bytes = 8
+abbrev pub most_fixed_bytes : ℕ
+most_fixed_bytes = 8
 
 abbrev pub most_entries : ℕ
 most_entries = 4

@@ -23,15 +23,15 @@ abbrev pub hex_below : ℕ → List ℕ → Option ℕ
 hex_below bound field = number_below 16 bound field
 
 -- a number of just so many hexadecimal digits
-abbrev pub wide_hex_of : ℕ → List ℕ → Option ℕ
-wide_hex_of width field = spelled_by (wide_hex width) 16 (16 ^ width) field
+abbrev pub wide_hex_reading : ℕ → List ℕ → Option ℕ
+wide_hex_reading width field = spelled_by (wide_hex width) 16 (16 ^ width) field
 
 -- an instruction word
-abbrev pub word_of : List ℕ → Option ℕ
-word_of field = wide_hex_of 8 field
+abbrev pub word_reading : List ℕ → Option ℕ
+word_reading field = wide_hex_reading 8 field
 
-abbrev pub byte_of : List ℕ → Option ℕ
-byte_of field = wide_hex_of 2 field
+abbrev pub byte_reading : List ℕ → Option ℕ
+byte_reading field = wide_hex_reading 2 field
 
 -- The field begins with no plus sign, and with a zero only where nothing follows.
 abbrev pub is_plain : List ℕ → Bool

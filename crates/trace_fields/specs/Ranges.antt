@@ -6,7 +6,7 @@ use Rattle.rv_fields.specs.declared.mode.Mode.TheVariants.{U}
 use Rattle.rv_fields.specs.declared.access.Accessed.{Accessed}
 use Rattle.rv_fields.specs.declared.trap.Trap.{Trap}
 use Rattle.rv_fields.specs.Effect.{Entry}
-use Rattle.trace_fields.specs.Bounds.{hex_bound, register_bound, trap_bound, most_labels, most_bytes, sized_bound, byte_bound}
+use Rattle.trace_fields.specs.Bounds.{hex_bound, register_bound, trap_bound, most_labels, most_fixed_bytes, sized_bound, byte_bound}
 use Rattle.trace_fields.specs.Readings.{is_any_of, sizes}
 
 abbrev pub IsAnyOf : List ℕ → ℕ → Type 0
@@ -43,7 +43,7 @@ pub record IsPath (path : List Name) : Type 0 where
   pub short : length path ≤ most_labels
   pub named : AllByRecursion IsName path
 
-pub record AreBytes (bytes : List ℕ) : Type 0 where
+pub record AreFixedBytes (bytes : List ℕ) : Type 0 where
   pub some : 1 ≤ length bytes
-  pub short : length bytes ≤ most_bytes
+  pub short : length bytes ≤ most_fixed_bytes
   pub small : AllByRecursion (λ b. b < byte_bound) bytes

@@ -8,31 +8,31 @@ use Rattle.rv_fields.specs.Name.{is_name, Name}
 use Rattle.rv_fields.specs.declared.access.Accessed.{Accessed}
 use Rattle.rv_fields.specs.declared.trap.Trap.{Trap}
 use Rattle.rv_fields.specs.Effect.{Entry}
-use Rattle.trace_fields.specs.Bounds.{count_bound, hex_bound, register_bound, space_bound, trap_bound, most_labels, most_bytes, most_entries, sized_bound}
+use Rattle.trace_fields.specs.Bounds.{count_bound, hex_bound, register_bound, space_bound, trap_bound, most_labels, most_fixed_bytes, most_entries, sized_bound}
 use Rattle.trace_fields.specs.declared.request.Kind.{Kind}
 use Rattle.trace_fields.specs.declared.request.Kind.TheVariants.{Ins, Mem, Jump, Csr, Sys, Value, Loop, Pick, Set}
 use Rattle.trace_fields.specs.declared.request.Cause.{Cause}
 use Rattle.trace_fields.specs.declared.request.Cause.TheVariants.{EmptyChoice, BudgetSpent, NoRegister, NoAddress, NoTarget, WindowFull, NoFreePage, NoPlace}
 use Rattle.trace_fields.specs.Letters.{access_letters, mode_letters, kind_of_letter, mode_of_letter}
 use Rattle.trace_fields.specs.Text.{colon, comma, slash, none_text, kind_text, cause_text}
-use Rattle.trace_fields.specs.Numbers.{decimal_below, hex_below, byte_of}
+use Rattle.trace_fields.specs.Numbers.{decimal_below, hex_below, byte_reading}
 use Rattle.trace_fields.specs.Fields.{is_decimal}
 
 -- The one of these things whose text the field is.
-abbrev pub told_by : {A : Type 0} → (A → List ℕ) → List A → List ℕ → Option A
-told_by text things field = find (λ a. bytes_eq (text a) field) things
+abbrev pub read_by_text : {A : Type 0} → (A → List ℕ) → List A → List ℕ → Option A
+read_by_text text things field = find (λ a. bytes_eq (text a) field) things
 
-abbrev pub kinds : List Kind
-kinds = Ins ∷ Mem ∷ Jump ∷ Csr ∷ Sys ∷ Value ∷ Loop ∷ Pick ∷ Set ∷ []
+abbrev pub all_kinds : List Kind
+all_kinds = Ins ∷ Mem ∷ Jump ∷ Csr ∷ Sys ∷ Value ∷ Loop ∷ Pick ∷ Set ∷ []
 
-abbrev pub causes : List Cause
-causes = EmptyChoice ∷ BudgetSpent ∷ NoRegister ∷ NoAddress ∷ NoTarget ∷ WindowFull ∷ NoFreePage ∷ NoPlace ∷ []
+abbrev pub all_causes : List Cause
+all_causes = EmptyChoice ∷ BudgetSpent ∷ NoRegister ∷ NoAddress ∷ NoTarget ∷ WindowFull ∷ NoFreePage ∷ NoPlace ∷ []
 
-abbrev pub kind_of : List ℕ → Option Kind
-kind_of field = told_by kind_text kinds field
+abbrev pub kind_reading : List ℕ → Option Kind
+kind_reading field = read_by_text kind_text all_kinds field
 
-abbrev pub cause_of : List ℕ → Option Cause
-cause_of field = told_by cause_text causes field
+abbrev pub cause_reading : List ℕ → Option Cause
+cause_reading field = read_by_text cause_text all_causes field
 
 -- the sizes of an access, in bytes
 abbrev pub sizes : List ℕ
@@ -46,36 +46,36 @@ abbrev pub is_any_of : List ℕ → ℕ → Bool
 is_any_of numbers n = list_any (λ m. m == n) numbers
 
 -- the field is one of these letters
-abbrev pub letter_of : List ℕ → List ℕ → Option ℕ
-letter_of letters (letter ∷ []) = if is_any_of letters letter then Some letter else None
-letter_of letters field = None
+abbrev pub letter_reading : List ℕ → List ℕ → Option ℕ
+letter_reading letters (letter ∷ []) = if is_any_of letters letter then Some letter else None
+letter_reading letters field = None
 
-abbrev pub name_of : List ℕ → Option Name
-name_of field = if is_name field then Some field else None
+abbrev pub name_reading : List ℕ → Option Name
+name_reading field = if is_name field then Some field else None
 
 -- a number that counts something
-abbrev pub count_of : List ℕ → Option ℕ
-count_of field = decimal_below count_bound field
+abbrev pub count_reading : List ℕ → Option ℕ
+count_reading field = decimal_below count_bound field
 
 -- the field is one of these numbers
-abbrev pub number_of : List ℕ → List ℕ → Option ℕ
-number_of numbers field = do
-  n ← count_of field
+abbrev pub number_reading : List ℕ → List ℕ → Option ℕ
+number_reading numbers field = do
+  n ← count_reading field
   if is_any_of numbers n then Some n else None
 
-abbrev pub hex_of : List ℕ → Option ℕ
-hex_of field = hex_below hex_bound field
+abbrev pub hex_reading : List ℕ → Option ℕ
+hex_reading field = hex_below hex_bound field
 
-abbrev pub register_of : List ℕ → Option ℕ
-register_of field = if is_decimal 1 register_bound field then Some (digits_value 10 field) else None
+abbrev pub register_reading : List ℕ → Option ℕ
+register_reading field = if is_decimal 1 register_bound field then Some (digits_value 10 field) else None
 
 -- an address space
-abbrev pub space_of : List ℕ → Option ℕ
-space_of field = decimal_below space_bound field
+abbrev pub space_reading : List ℕ → Option ℕ
+space_reading field = decimal_below space_bound field
 
 -- the parts of a field, parted by this byte
-abbrev pub parts_of : ℕ → List ℕ → List (List ℕ)
-parts_of byte field = slice_split (λ b. b == byte) field
+abbrev pub field_parts : ℕ → List ℕ → List (List ℕ)
+field_parts byte field = slice_split (λ b. b == byte) field
 
 -- what all the parts tell, in order
 abbrev pub all_of : {A : Type 0} → (List ℕ → Option A) → List (List ℕ) → Option (List A)
@@ -89,8 +89,8 @@ all_of reading (part ∷ parts) = do
 abbrev pub at_most : {A : Type 0} → ℕ → (List ℕ → Option A) → List (List ℕ) → Option (List A)
 at_most most reading parts = if nat_le (length parts) most then all_of reading parts else None
 
-abbrev pub path_of : List ℕ → Option (List Name)
-path_of field = at_most most_labels name_of (parts_of slash field)
+abbrev pub path_reading : List ℕ → Option (List Name)
+path_reading field = at_most most_labels name_reading (field_parts slash field)
 
 -- the digits of each byte
 abbrev pub pairs_of : List ℕ → List (List ℕ)
@@ -99,63 +99,63 @@ pairs_of (a ∷ []) = (a ∷ []) ∷ []
 pairs_of (a ∷ b ∷ rest) = (a ∷ b ∷ []) ∷ pairs_of rest
 
 -- one byte at least
-abbrev pub bytes_of : List ℕ → Option (List ℕ)
-bytes_of [] = None
-bytes_of field = at_most most_bytes byte_of (pairs_of field)
+abbrev pub bytes_reading : List ℕ → Option (List ℕ)
+bytes_reading [] = None
+bytes_reading field = at_most most_fixed_bytes byte_reading (pairs_of field)
 
 -- a field that may tell that there is nothing
 abbrev pub optional : {A : Type 0} → (List ℕ → Option A) → List ℕ → Option (Option A)
 optional reading field = if bytes_eq field none_text then Some None else option_map Some (reading field)
 
-abbrev pub write_in : List (List ℕ) → Option (ℕ × ℕ)
-write_in (register ∷ value ∷ []) = do
-  r ← register_of register
-  v ← hex_of value
+abbrev pub write_by_parts : List (List ℕ) → Option (ℕ × ℕ)
+write_by_parts (register ∷ value ∷ []) = do
+  r ← register_reading register
+  v ← hex_reading value
   Some (r, v)
-write_in parts = None
+write_by_parts parts = None
 
 -- a number of so many bytes
 abbrev pub sized : ℕ → List ℕ → Option ℕ
 sized size field = hex_below (sized_bound size) field
 
-abbrev pub access_in : List (List ℕ) → Option Accessed
-access_in (kind ∷ va ∷ pa ∷ size ∷ read ∷ wrote ∷ []) = do
-  k ← letter_of access_letters kind
-  v ← hex_of va
-  p ← hex_of pa
-  s ← number_of sizes size
+abbrev pub access_by_parts : List (List ℕ) → Option Accessed
+access_by_parts (kind ∷ va ∷ pa ∷ size ∷ read ∷ wrote ∷ []) = do
+  k ← letter_reading access_letters kind
+  v ← hex_reading va
+  p ← hex_reading pa
+  s ← number_reading sizes size
   r ← optional (sized s) read
   w ← optional (sized s) wrote
   Some (record { kind = kind_of_letter k; va = v; pa = p; size = s; read = r; wrote = w })
-access_in parts = None
+access_by_parts parts = None
 
-abbrev pub entry_in : List (List ℕ) → Option Entry
-entry_in (at ∷ pte ∷ []) = do
-  a ← hex_of at
-  p ← hex_of pte
+abbrev pub entry_by_parts : List (List ℕ) → Option Entry
+entry_by_parts (at ∷ pte ∷ []) = do
+  a ← hex_reading at
+  p ← hex_reading pte
   Some (record { at = a; pte = p })
-entry_in parts = None
+entry_by_parts parts = None
 
-abbrev pub trap_in : List (List ℕ) → Option Trap
-trap_in (cause ∷ epc ∷ tval ∷ to ∷ []) = do
+abbrev pub trap_by_parts : List (List ℕ) → Option Trap
+trap_by_parts (cause ∷ epc ∷ tval ∷ to ∷ []) = do
   c ← decimal_below trap_bound cause
-  e ← hex_of epc
-  t ← hex_of tval
-  m ← letter_of mode_letters to
+  e ← hex_reading epc
+  t ← hex_reading tval
+  m ← letter_reading mode_letters to
   Some (record { cause = c; epc = e; tval = t; to = mode_of_letter m })
-trap_in parts = None
+trap_by_parts parts = None
 
-abbrev pub write_of : List ℕ → Option (ℕ × ℕ)
-write_of field = write_in (parts_of colon field)
+abbrev pub write_reading : List ℕ → Option (ℕ × ℕ)
+write_reading field = write_by_parts (field_parts colon field)
 
-abbrev pub access_of : List ℕ → Option Accessed
-access_of field = access_in (parts_of colon field)
+abbrev pub access_reading : List ℕ → Option Accessed
+access_reading field = access_by_parts (field_parts colon field)
 
-abbrev pub entry_of : List ℕ → Option Entry
-entry_of field = entry_in (parts_of colon field)
+abbrev pub entry_reading : List ℕ → Option Entry
+entry_reading field = entry_by_parts (field_parts colon field)
 
-abbrev pub trap_of : List ℕ → Option Trap
-trap_of field = trap_in (parts_of colon field)
+abbrev pub trap_reading : List ℕ → Option Trap
+trap_reading field = trap_by_parts (field_parts colon field)
 
-abbrev pub trail_of : List ℕ → Option (List Entry)
-trail_of field = if bytes_eq field none_text then Some [] else at_most most_entries entry_of (parts_of comma field)
+abbrev pub trail_reading : List ℕ → Option (List Entry)
+trail_reading field = if bytes_eq field none_text then Some [] else at_most most_entries entry_reading (field_parts comma field)

@@ -11,5 +11,5 @@ abbrev pub entry_held : Entry → EntryText
 entry_held e = record { at = e.at; pte = e.pte }
 
 -- the entries, and zeros behind them up to the most that a trail has
-abbrev pub padded : List Entry → List EntryText
-padded entries = map entry_held entries ++ replicate (most_entries - length entries) (record { at = 0; pte = 0 })
+abbrev pub padded_trail : List Entry → List EntryText
+padded_trail entries = map entry_held entries ++ replicate (most_entries - length entries) (record { at = 0; pte = 0 })

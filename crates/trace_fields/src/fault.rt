@@ -15,9 +15,9 @@ pub enum LineFault {
 
 impl fmt::Display for LineFault {
     ghost use Rattle.std.specs.Prelude.{Some};
-    ghost use Rattle.trace_fields.specs.Messages.{message};
+    ghost use Rattle.trace_fields.specs.Messages.{line_message};
 
-    ghost output = { λ fault. Some (message fault) };
+    ghost output = { λ fault. Some (line_message fault) };
 
     fn fmt<W: fmt::Write>(&self, f: &mut fmt::Formatter<W>) -> fmt::Result {
         match *self {

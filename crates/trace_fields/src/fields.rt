@@ -4,10 +4,10 @@ ghost use Rattle.std.specs.List.{flat_map, AllByRecursion};
 ghost use Rattle.std.specs.Fmt.{decimal};
 ghost use Rattle.std.specs.Str.Parse.{digits_value};
 ghost use Rattle.trace_fields.specs.Text.{hex, word_text, kind_text, cause_text, or_none, write_text, access_text, trail_text, trap_text, joined_by, slash, byte_text};
-ghost use Rattle.trace_fields.specs.Fields.{Test, fields_of, is_word, is_decimal, is_another_hart};
-ghost use Rattle.trace_fields.specs.Numbers.{decimal_below, word_of};
-ghost use Rattle.trace_fields.specs.Readings.{hex_of, count_of, kind_of, cause_of, number_of, preambles, name_of, register_of, space_of, path_of, bytes_of, optional, write_of, access_of, trail_of, trap_of};
-ghost use Rattle.trace_fields.specs.Ranges.{IsAnyOf, IsName, IsPath, AreBytes, IsWrite, IsAccess, IsEntry, IsTrap};
+ghost use Rattle.trace_fields.specs.Fields.{FieldTest, fields_in, is_word, is_decimal, is_another_hart};
+ghost use Rattle.trace_fields.specs.Numbers.{decimal_below, word_reading};
+ghost use Rattle.trace_fields.specs.Readings.{hex_reading, count_reading, kind_reading, cause_reading, number_reading, preambles, name_reading, register_reading, space_reading, path_reading, bytes_reading, optional, write_reading, access_reading, trail_reading, trap_reading};
+ghost use Rattle.trace_fields.specs.Ranges.{IsAnyOf, IsName, IsPath, AreFixedBytes, IsWrite, IsAccess, IsEntry, IsTrap};
 ghost use Rattle.trace_fields.specs.Bounds.{count_bound, hex_bound, word_bound, register_bound, space_bound, most_entries, most_fields};
 ghost use Rattle.trace_fields.specs.Taking.{left, whole_line, IsWrongBy, Took, Passed, Takes, Lacks};
 
@@ -34,7 +34,7 @@ pub struct Fields<'a> {
 impl<'a> Fields<'a> {
     /// The fields of the line of this number, which has this text.
     pub fn of(line: u64, text: &'a [u8]) -> Fields<'a>
-        ensures { left result ≡ whole_line line (fields_of text.now) }
+        ensures { left result ≡ whole_line line (fields_in text.now) }
     {
         Fields {
             line,
@@ -56,7 +56,7 @@ impl<'a> Fields<'a> {
     /// The next field, whatever it is.
     pub fn next(&mut self) -> Result<&'a [u8], LineFault>
         requires { (left self.old).number < most_fields }
-        ensures { MatchResult result (λ field. Took self.old self.new field.now) (λ fault. ((left self.old).fields ≡ []) × ((test : Test) → Lacks test self.old fault)) }
+        ensures { MatchResult result (λ field. Took self.old self.new field.now) (λ fault. ((left self.old).fields ≡ []) × ((test : FieldTest) → Lacks test self.old fault)) }
     {
         let fault = self.fault();
         let field = self.parts.next().ok_or(fault)?;
@@ -88,7 +88,7 @@ impl<'a> Fields<'a> {
     /// A number that counts something.
     pub fn count(&mut self) -> Result<u32, LineFault>
         requires { (left self.old).number < most_fields }
-        ensures { Takes count_of decimal (λ n. n < count_bound) (λ v. v) self.old self.new result }
+        ensures { Takes count_reading decimal (λ n. n < count_bound) (λ v. v) self.old self.new result }
     {
         let fault = self.fault();
         readings::count_of(self.next()?).ok_or(fault)
@@ -97,7 +97,7 @@ impl<'a> Fields<'a> {
     /// A number in hexadecimal digits.
     pub fn hex(&mut self) -> Result<u64, LineFault>
         requires { (left self.old).number < most_fields }
-        ensures { Takes hex_of hex (λ n. n < hex_bound) (λ v. v) self.old self.new result }
+        ensures { Takes hex_reading hex (λ n. n < hex_bound) (λ v. v) self.old self.new result }
     {
         let fault = self.fault();
         numbers::hex_of(self.next()?).ok_or(fault)
@@ -106,7 +106,7 @@ impl<'a> Fields<'a> {
     /// A word.
     pub fn word(&mut self) -> Result<u32, LineFault>
         requires { (left self.old).number < most_fields }
-        ensures { Takes word_of word_text (λ w. w < word_bound) (λ v. v) self.old self.new result }
+        ensures { Takes word_reading word_text (λ w. w < word_bound) (λ v. v) self.old self.new result }
     {
         let fault = self.fault();
         numbers::word_of(self.next()?).ok_or(fault)
@@ -115,7 +115,7 @@ impl<'a> Fields<'a> {
     /// A register, x1 to x31.
     pub fn register(&mut self) -> Result<u32, LineFault>
         requires { (left self.old).number < most_fields }
-        ensures { Takes register_of decimal (λ r. (1 ≤ r) × (r < register_bound)) (λ v. v) self.old self.new result }
+        ensures { Takes register_reading decimal (λ r. (1 ≤ r) × (r < register_bound)) (λ v. v) self.old self.new result }
     {
         let fault = self.fault();
         let told = readings::register_of(self.next()?).ok_or(fault)?;
@@ -125,7 +125,7 @@ impl<'a> Fields<'a> {
     /// An address space.
     pub fn space(&mut self) -> Result<u32, LineFault>
         requires { (left self.old).number < most_fields }
-        ensures { Takes space_of decimal (λ s. s < space_bound) (λ v. v) self.old self.new result }
+        ensures { Takes space_reading decimal (λ s. s < space_bound) (λ v. v) self.old self.new result }
     {
         let fault = self.fault();
         readings::space_of(self.next()?).ok_or(fault)
@@ -134,7 +134,7 @@ impl<'a> Fields<'a> {
     /// The number of words of a preamble.
     pub fn preamble(&mut self) -> Result<u32, LineFault>
         requires { (left self.old).number < most_fields }
-        ensures { Takes (number_of preambles) decimal (IsAnyOf preambles) (λ v. v) self.old self.new result }
+        ensures { Takes (number_reading preambles) decimal (IsAnyOf preambles) (λ v. v) self.old self.new result }
     {
         let fault = self.fault();
         readings::preamble_of(self.next()?).ok_or(fault)
@@ -143,7 +143,7 @@ impl<'a> Fields<'a> {
     /// The kind of a request.
     pub fn kind(&mut self) -> Result<Kind, LineFault>
         requires { (left self.old).number < most_fields }
-        ensures { Takes kind_of kind_text (λ kind. Unit {0}) (λ v. v) self.old self.new result }
+        ensures { Takes kind_reading kind_text (λ kind. Unit {0}) (λ v. v) self.old self.new result }
     {
         let fault = self.fault();
         readings::kind_of(self.next()?).ok_or(fault)
@@ -152,7 +152,7 @@ impl<'a> Fields<'a> {
     /// The cause of a refusal.
     pub fn cause(&mut self) -> Result<Cause, LineFault>
         requires { (left self.old).number < most_fields }
-        ensures { Takes cause_of cause_text (λ cause. Unit {0}) (λ v. v) self.old self.new result }
+        ensures { Takes cause_reading cause_text (λ cause. Unit {0}) (λ v. v) self.old self.new result }
     {
         let fault = self.fault();
         readings::cause_of(self.next()?).ok_or(fault)
@@ -161,7 +161,7 @@ impl<'a> Fields<'a> {
     /// A name.
     pub fn name(&mut self) -> Result<Name, LineFault>
         requires { (left self.old).number < most_fields }
-        ensures { Takes name_of (λ name. name) IsName (λ v. v) self.old self.new result }
+        ensures { Takes name_reading (λ name. name) IsName (λ v. v) self.old self.new result }
     {
         let fault = self.fault();
         name_of(self.next()?).ok_or(fault)
@@ -170,7 +170,7 @@ impl<'a> Fields<'a> {
     /// The register that a step wrote, where it wrote one.
     pub fn write(&mut self) -> Result<Option<(u8, u64)>, LineFault>
         requires { (left self.old).number < most_fields }
-        ensures { Takes (optional write_of) (or_none write_text) (λ write. IfSome write IsWrite) (λ v. v) self.old self.new result }
+        ensures { Takes (optional write_reading) (or_none write_text) (λ write. IfSome write IsWrite) (λ v. v) self.old self.new result }
     {
         let fault = self.fault();
         readings::optional_write_of(self.next()?).ok_or(fault)
@@ -179,7 +179,7 @@ impl<'a> Fields<'a> {
     /// What a step read or wrote in memory, where it did.
     pub fn access(&mut self) -> Result<Option<AccessText>, LineFault>
         requires { (left self.old).number < most_fields }
-        ensures { Takes (optional access_of) (or_none access_text) (λ access. IfSome access IsAccess) (λ v. v) self.old self.new result }
+        ensures { Takes (optional access_reading) (or_none access_text) (λ access. IfSome access IsAccess) (λ v. v) self.old self.new result }
     {
         let fault = self.fault();
         readings::optional_access_of(self.next()?).ok_or(fault)
@@ -188,7 +188,7 @@ impl<'a> Fields<'a> {
     /// The page table entries by which an address is translated.
     pub fn trail(&mut self) -> Result<TrailText, LineFault>
         requires { (left self.old).number < most_fields }
-        ensures { Takes trail_of trail_text (λ trail. (length trail ≤ most_entries) × AllByRecursion IsEntry trail) (λ v. v) self.old self.new result }
+        ensures { Takes trail_reading trail_text (λ trail. (length trail ≤ most_entries) × AllByRecursion IsEntry trail) (λ v. v) self.old self.new result }
     {
         let fault = self.fault();
         readings::trail_of(self.next()?).ok_or(fault)
@@ -197,7 +197,7 @@ impl<'a> Fields<'a> {
     /// The trap that a step took, where it took one.
     pub fn trap(&mut self) -> Result<Option<TrapText>, LineFault>
         requires { (left self.old).number < most_fields }
-        ensures { Takes (optional trap_of) (or_none trap_text) (λ trap. IfSome trap IsTrap) (λ v. v) self.old self.new result }
+        ensures { Takes (optional trap_reading) (or_none trap_text) (λ trap. IfSome trap IsTrap) (λ v. v) self.old self.new result }
     {
         let fault = self.fault();
         readings::optional_trap_of(self.next()?).ok_or(fault)
@@ -206,7 +206,7 @@ impl<'a> Fields<'a> {
     /// The labels of a path.
     pub fn path(&mut self, alloc: Global) -> Result<Vec<Name>, LineFault>
         requires { (left self.old).number < most_fields }
-        ensures { Takes path_of (joined_by slash) IsPath (λ path. path.items) self.old self.new result }
+        ensures { Takes path_reading (joined_by slash) IsPath (λ path. path.items) self.old self.new result }
     {
         let fault = self.fault();
         readings::path_of(alloc, self.next()?)?.ok_or(fault)
@@ -215,7 +215,7 @@ impl<'a> Fields<'a> {
     /// Bytes with which memory starts.
     pub fn bytes(&mut self, alloc: Global) -> Result<Vec<u8>, LineFault>
         requires { (left self.old).number < most_fields }
-        ensures { Takes bytes_of (flat_map byte_text) AreBytes (λ bytes. bytes.items) self.old self.new result }
+        ensures { Takes bytes_reading (flat_map byte_text) AreFixedBytes (λ bytes. bytes.items) self.old self.new result }
     {
         let fault = self.fault();
         readings::bytes_of(alloc, self.next()?)?.ok_or(fault)

@@ -1,7 +1,7 @@
 //! The numbers that fields spell.
 ghost use Rattle.std.specs.Prelude.{◌≡◌, ◌<◌, ◌≤◌, ◌^◌, true, false, MatchOption, SomeIff};
 ghost use Rattle.std.specs.Str.Parse.{IsNumeral, digits_value, without_leading_plus};
-ghost use Rattle.trace_fields.specs.Numbers.{number_below, decimal_below, hex_below, wide_hex_of, word_of, byte_of, is_plain, is_lower};
+ghost use Rattle.trace_fields.specs.Numbers.{number_below, decimal_below, hex_below, wide_hex_reading, word_reading, byte_reading, is_plain, is_lower};
 ghost use Rattle.trace_fields.specs.Fields.{is_decimal};
 
 /// The number below the bound that the field spells in decimal digits.
@@ -43,14 +43,14 @@ pub(crate) fn hex_of_bits(field: &[u8], bits: u32) -> Option<u64>
 
 /// The word that the field spells in eight hexadecimal digits.
 pub(crate) fn word_of(field: &[u8]) -> Option<u32>
-    ensures { result ≡ word_of field.now }
+    ensures { result ≡ word_reading field.now }
 {
     Some(wide_hex_of(field, 8)? as u32)
 }
 
 /// The byte that the field spells in two hexadecimal digits.
 pub(crate) fn byte_of(field: &[u8]) -> Option<u8>
-    ensures { result ≡ byte_of field.now }
+    ensures { result ≡ byte_reading field.now }
 {
     Some(wide_hex_of(field, 2)? as u8)
 }
@@ -59,7 +59,7 @@ pub(crate) fn byte_of(field: &[u8]) -> Option<u8>
 fn wide_hex_of(field: &[u8], width: usize) -> Option<u64>
     requires some { 0 < width }
     requires narrow { width ≤ 16 }
-    ensures { result ≡ wide_hex_of width field.now }
+    ensures { result ≡ wide_hex_reading width field.now }
 {
     if field.len() == width && !field.starts_with(b"+") && is_lower(field) {
         parsed(field, 16)

@@ -4,7 +4,7 @@ ghost use Rattle.std.specs.Str.Parse.{digits_value};
 ghost use Rattle.trace_fields.specs.Trails.{entry_seen};
 ghost use Rattle.trace_fields.specs.Text.{none_text, kind_text, cause_text};
 ghost use Rattle.trace_fields.specs.Fields.{is_word, is_another_hart};
-ghost use Rattle.trace_fields.specs.Readings.{told_by, kind_of, cause_of, count_of, letter_of, number_of, sizes, preambles, register_of, space_of, hex_of, sized, optional, path_of, bytes_of, pairs_of, write_of, access_of, entry_of, trail_of, trap_of};
+ghost use Rattle.trace_fields.specs.Readings.{read_by_text, kind_reading, cause_reading, count_reading, letter_reading, number_reading, sizes, preambles, register_reading, space_reading, hex_reading, sized, optional, path_reading, bytes_reading, pairs_of, write_reading, access_reading, entry_reading, trail_reading, trap_reading};
 
 use crate::access::AccessText;
 use crate::entry::EntryText;
@@ -66,14 +66,14 @@ fn is_none(field: &[u8]) -> bool
 
 /// The register, x1 to x31, that the field names.
 pub(crate) fn register_of(field: &[u8]) -> Option<u8>
-    ensures { result ≡ register_of field.now }
+    ensures { result ≡ register_reading field.now }
 {
     Some(count_below(field, REGISTER_BOUND)? as u8)
 }
 
 /// The one of these letters that the field is.
 fn letter_of(letters: &[u8], field: &[u8]) -> Option<u8>
-    ensures { result ≡ letter_of letters.now field.now }
+    ensures { result ≡ letter_reading letters.now field.now }
 {
     match field {
         [letter] if letters.contains(letter) => Some(*letter),
@@ -83,7 +83,7 @@ fn letter_of(letters: &[u8], field: &[u8]) -> Option<u8>
 
 /// The size of an access in bytes.
 fn size_of(field: &[u8]) -> Option<u8>
-    ensures { result ≡ number_of sizes field.now }
+    ensures { result ≡ number_reading sizes field.now }
 {
     match count_of(field)? {
         size @ (1 | 2 | 4 | 8) => Some(size as u8),
@@ -93,7 +93,7 @@ fn size_of(field: &[u8]) -> Option<u8>
 
 /// The number of words of a preamble.
 pub(crate) fn preamble_of(field: &[u8]) -> Option<u32>
-    ensures { result ≡ number_of preambles field.now }
+    ensures { result ≡ number_reading preambles field.now }
 {
     match count_of(field)? {
         words @ (0 | 8) => Some(words),
@@ -103,14 +103,14 @@ pub(crate) fn preamble_of(field: &[u8]) -> Option<u32>
 
 /// A number that counts something.
 pub(crate) fn count_of(field: &[u8]) -> Option<u32>
-    ensures { result ≡ count_of field.now }
+    ensures { result ≡ count_reading field.now }
 {
     Some(decimal_below(field, COUNT_BOUND)? as u32)
 }
 
 /// The register that was written, and its new value.
 fn write_of(field: &[u8]) -> Option<(u8, u64)>
-    ensures { result ≡ write_of field.now }
+    ensures { result ≡ write_reading field.now }
 {
     let mut parts = Parts::of(field, b':');
     let register = parts.next()?;
@@ -123,7 +123,7 @@ fn write_of(field: &[u8]) -> Option<(u8, u64)>
 
 /// A page table entry with its address.
 fn entry_of(field: &[u8]) -> Option<EntryText>
-    ensures { option_map entry_seen result ≡ entry_of field.now }
+    ensures { option_map entry_seen result ≡ entry_reading field.now }
 {
     let mut parts = Parts::of(field, b':');
     let at = parts.next()?;
@@ -139,7 +139,7 @@ fn entry_of(field: &[u8]) -> Option<EntryText>
 
 /// The trap that a step took.
 fn trap_of(field: &[u8]) -> Option<TrapText>
-    ensures { result ≡ trap_of field.now }
+    ensures { result ≡ trap_reading field.now }
 {
     let mut parts = Parts::of(field, b':');
     let cause = parts.next()?;
@@ -159,7 +159,7 @@ fn trap_of(field: &[u8]) -> Option<TrapText>
 
 /// What a step read or wrote in memory.
 fn access_of(field: &[u8]) -> Option<AccessText>
-    ensures { result ≡ access_of field.now }
+    ensures { result ≡ access_reading field.now }
 {
     let mut parts = Parts::of(field, b':');
     let kind = parts.next()?;
@@ -199,7 +199,7 @@ fn sized(size: u8, field: &[u8]) -> Option<Option<u64>>
 
 /// The register that was written, where one was.
 pub(crate) fn optional_write_of(field: &[u8]) -> Option<Option<(u8, u64)>>
-    ensures { result ≡ optional write_of field.now }
+    ensures { result ≡ optional write_reading field.now }
 {
     if is_none(field) {
         Some(None)
@@ -210,7 +210,7 @@ pub(crate) fn optional_write_of(field: &[u8]) -> Option<Option<(u8, u64)>>
 
 /// What a step read or wrote in memory, where it did.
 pub(crate) fn optional_access_of(field: &[u8]) -> Option<Option<AccessText>>
-    ensures { result ≡ optional access_of field.now }
+    ensures { result ≡ optional access_reading field.now }
 {
     if is_none(field) {
         Some(None)
@@ -221,7 +221,7 @@ pub(crate) fn optional_access_of(field: &[u8]) -> Option<Option<AccessText>>
 
 /// The trap that a step took, where it took one.
 pub(crate) fn optional_trap_of(field: &[u8]) -> Option<Option<TrapText>>
-    ensures { result ≡ optional trap_of field.now }
+    ensures { result ≡ optional trap_reading field.now }
 {
     if is_none(field) {
         Some(None)
@@ -232,20 +232,20 @@ pub(crate) fn optional_trap_of(field: &[u8]) -> Option<Option<TrapText>>
 
 /// An address space.
 pub(crate) fn space_of(field: &[u8]) -> Option<u32>
-    ensures { result ≡ space_of field.now }
+    ensures { result ≡ space_reading field.now }
 {
     Some(decimal_below(field, SPACE_BOUND)? as u32)
 }
 
 /// The kind of request whose name the field is.
 pub(crate) fn kind_of(field: &[u8]) -> Option<Kind>
-    ensures { result ≡ kind_of field.now }
+    ensures { result ≡ kind_reading field.now }
 {
     kind_among(&KINDS, field)
 }
 
 fn kind_among(kinds: &[Kind], field: &[u8]) -> Option<Kind>
-    ensures { result ≡ told_by kind_text kinds.now field.now }
+    ensures { result ≡ read_by_text kind_text kinds.now field.now }
 {
     kinds
         .iter()
@@ -255,13 +255,13 @@ fn kind_among(kinds: &[Kind], field: &[u8]) -> Option<Kind>
 
 /// The cause whose name the field is.
 pub(crate) fn cause_of(field: &[u8]) -> Option<Cause>
-    ensures { result ≡ cause_of field.now }
+    ensures { result ≡ cause_reading field.now }
 {
     cause_among(&CAUSES, field)
 }
 
 fn cause_among(causes: &[Cause], field: &[u8]) -> Option<Cause>
-    ensures { result ≡ told_by cause_text causes.now field.now }
+    ensures { result ≡ read_by_text cause_text causes.now field.now }
 {
     causes
         .iter()
@@ -271,7 +271,7 @@ fn cause_among(causes: &[Cause], field: &[u8]) -> Option<Cause>
 
 /// The entries of a trail.
 pub(crate) fn trail_of(field: &[u8]) -> Option<TrailText>
-    ensures { result ≡ trail_of field.now }
+    ensures { result ≡ trail_reading field.now }
 {
     let mut trail = TrailText::new();
     if is_none(field) {
@@ -286,7 +286,7 @@ pub(crate) fn trail_of(field: &[u8]) -> Option<TrailText>
 
 /// The labels of a path.
 pub(crate) fn path_of(alloc: Global, field: &[u8]) -> Result<Option<Vec<Name>>, AllocError>
-    ensures { IfOk result (λ path. option_map (λ p. p.items) path ≡ path_of field.now) }
+    ensures { IfOk result (λ path. option_map (λ p. p.items) path ≡ path_reading field.now) }
 {
     let mut path = Vec::new(alloc);
     let mut labels = Parts::of(field, b'/');
@@ -304,7 +304,7 @@ pub(crate) fn path_of(alloc: Global, field: &[u8]) -> Result<Option<Vec<Name>>, 
 
 /// The bytes with which memory starts.
 pub(crate) fn bytes_of(alloc: Global, field: &[u8]) -> Result<Option<Vec<u8>>, AllocError>
-    ensures { IfOk result (λ bytes. option_map (λ b. b.items) bytes ≡ bytes_of field.now) }
+    ensures { IfOk result (λ bytes. option_map (λ b. b.items) bytes ≡ bytes_reading field.now) }
 {
     if field.is_empty() {
         return Ok(None);

@@ -22,15 +22,15 @@ impl Model for TrailText {
     ghost use Rattle.std.specs.Prelude.{◌≡◌, ◌≤◌, List, take, length, map};
     ghost use Rattle.rv_fields.specs.Effect.{Entry};
     ghost use Rattle.trace_fields.specs.Bounds.{most_entries};
-    ghost use Rattle.trace_fields.specs.Trails.{entry_seen, padded};
+    ghost use Rattle.trace_fields.specs.Trails.{entry_seen, padded_trail};
 
     ghost Value = { List Entry };
 
     ghost view = { λ t. map entry_seen (take t.len t.entries) };
 
-    ghost inverse = { λ entries. record { len = length entries; entries = padded entries } };
+    ghost inverse = { λ entries. record { len = length entries; entries = padded_trail entries } };
 
-    ghost invariant = { λ t. (t.len ≤ most_entries) × (length (map entry_seen (take t.len t.entries)) ≡ t.len) × (padded (map entry_seen (take t.len t.entries)) ≡ t.entries) };
+    ghost invariant = { λ t. (t.len ≤ most_entries) × (length (map entry_seen (take t.len t.entries)) ≡ t.len) × (padded_trail (map entry_seen (take t.len t.entries)) ≡ t.entries) };
 }
 
 impl TrailText {

@@ -14,7 +14,7 @@ use Rattle.rv_fields.specs.Memory.{whole}
 use Rattle.rv_step.specs.Views.{hart_seen}
 use Rattle.rv_machine.specs.declared.machine.Machine as code
 use Rattle.rv_machine.specs.declared.reset.Reset.{Reset}
-use Rattle.rv_machine.specs.Views.{machine_seen, no_hart, reset_hart}
+use Rattle.rv_machine.specs.Views.{absent_hart, machine_seen, reset_hart}
 use Rattle.trace_text.specs.Lines.{Line, effects_of}
 use Rattle.trace_text.specs.Orders.{IsOrder, harts_told, order_fault, order_told}
 use Rattle.trace_text.specs.Text.{order_text}
@@ -29,23 +29,23 @@ use Rattle.ram_image.specs.Segments.{memory_of}
 use Rattle.trace_replay.specs.declared.verdict.Verdict.{Verdict}
 use Rattle.trace_replay.specs.declared.verdict.Verdict.TheVariants.{Agrees, Differs}
 use Rattle.trace_replay.specs.declared.verdict.LineField.TheVariants.{Harts}
-use Rattle.trace_replay.specs.Comparing.{Difference, difference, harts_differ}
+use Rattle.trace_replay.specs.Comparing.{Difference, first_difference, harts_differ}
 use Rattle.trace_replay.specs.Judging.{IsInRange}
-use Rattle.trace_replay.specs.Passes.{AreFiles, Passes, PassesFrom, harts_at, machine_at}
+use Rattle.trace_replay.specs.Passes.{AreFiles, Passes, PassesFrom, machine_at, reset_harts}
 use Rattle.elf_file.specs.declared.fault.ElfFault.{ElfFault}
-use Rattle.elf_file.specs.Faults.{fault_of}
+use Rattle.elf_file.specs.Faults.{file_fault}
 use Rattle.elf_file.proofs.Judging.{unloaded_with_fault}
 use Rattle.trace_text.proofs.Sound.{sound}
 use Rattle.trace_text.specs.Traces as traces
 use Rattle.trace_replay.specs.declared.verdict.ReplayFault.{ReplayFault}
 use Rattle.trace_replay.specs.declared.verdict.ReplayFault.TheVariants.{Elf, Order, Trace, Memory}
-use Rattle.trace_replay.specs.Verdicts.{IsFaultOf, IsOf, IsTraceFault, IsVerdict, agrees}
+use Rattle.trace_replay.specs.Verdicts.{IsFaultOf, IsOf, IsTraceFault, IsVerdict, is_agreement}
 use Rattle.trace_replay.proofs.Judged.{none_where_passes, passes_where_none}
 use Rattle.trace_replay.proofs.Playing.{MachineInRange}
 
 module _ (reset : Reset) (small : IsInRange reset) (harts : ℕ) where
-  pub is_reset : (h : ℕ) → h < harts → IsReset h (harts_at harts reset h)
-  is_reset h member = subst (λ b. IsReset h (cond b (reset_hart h reset) no_hart)) (sym (lt-ltb h harts member)) (record {
+  pub is_reset : (h : ℕ) → h < harts → IsReset h (reset_harts harts reset h)
+  is_reset h member = subst (λ b. IsReset h (cond b (reset_hart h reset) absent_hart)) (sym (lt-ltb h harts member)) (record {
     number = refl;
     pc = refl;
     mode = refl;
@@ -66,7 +66,7 @@ module _ (reset : Reset) (small : IsInRange reset) (harts : ℕ) where
   in_range few elf bytes = record {
     bytes = bytes;
     numbers = λ h member. (is_reset h member).number;
-    own = λ h member. in_range_at_reset h (harts_at harts reset h) (omega (arith, member, few)) (is_reset h member);
+    own = λ h member. in_range_at_reset h (reset_harts harts reset h) (omega (arith, member, few)) (is_reset h member);
   }
 
 pub order_sound : (harts : ℕ) (order text : List ℕ) → IsOrder harts order → text ≡ order_text harts order → order_fault text ≡ None
@@ -75,14 +75,14 @@ order_sound harts order text is same = ap order_fault same ∙ (orders.told hart
 -- files in their forms have no fault
 pub files_sound : (harts : ℕ) (order : List ℕ) (told_harts : ℕ) (lines : List Line) (elf order_file trace_file : List ℕ)
     → AreFiles harts order told_harts lines elf order_file trace_file
-    → (fault_of elf ≡ None) × (order_fault order_file ≡ None) × (traces.trace_fault trace_file ≡ None)
+    → (file_fault elf ≡ None) × (order_fault order_file ≡ None) × (traces.trace_fault trace_file ≡ None)
 files_sound harts order told_harts lines elf order_file trace_file files = (
-  none_in (fault_of elf) refl,
+  none_in (file_fault elf) refl,
   order_sound harts order order_file files.order_ranges files.order_is,
   ap traces.trace_fault files.trace_is ∙ sound told_harts lines files.trace_ranges,
 )
   where
-    none_in : (fault : Option ElfFault) → fault ≡ fault_of elf → fault_of elf ≡ None
+    none_in : (fault : Option ElfFault) → fault ≡ file_fault elf → file_fault elf ≡ None
     none_in None is = sym is
     none_in (Some fault) is =
         let lacks : load elf 0 ≡ None = unloaded_with_fault elf fault 0 (sym is) in
@@ -93,13 +93,13 @@ all_named : (harts : ℕ) (order : List ℕ) → All (λ h. h < harts) order →
 all_named harts [] named = tt
 all_named harts (h ∷ order) named = (named 0 0 (omega arith), all_named harts order (λ k d below. named (suc k) d (omega (arith, below))))
 
-agreed : (v : Verdict) (count : ℕ) (d : Option Difference) → IsOf v count d → agrees v ≡ true → d ≡ None
+agreed : (v : Verdict) (count : ℕ) (d : Option Difference) → IsOf v count d → is_agreement v ≡ true → d ≡ None
 agreed (Agrees steps) count None is ok = refl
 agreed (Agrees steps) count (Some d) is ok = absurd is
 agreed (Differs first) count None is ok = absurd is
 agreed (Differs first) count (Some d) is ok = absurd cc
 
-agreeing : (v : Verdict) (count : ℕ) (d : Option Difference) → IsOf v count d → d ≡ None → agrees v ≡ true
+agreeing : (v : Verdict) (count : ℕ) (d : Option Difference) → IsOf v count d → d ≡ None → is_agreement v ≡ true
 agreeing (Agrees steps) count d is none = refl
 agreeing (Differs first) count None is none = absurd is
 agreeing (Differs first) count (Some d) is none = absurd cc
@@ -117,9 +117,9 @@ same_harts told harts d none = elim (eqb_tells told harts) [
     clash e n = cc
 
 module _ (reset : Reset) (small : IsInRange reset) (elf order_file trace_file : List ℕ) (v : Verdict) (is : IsVerdict reset elf order_file trace_file v) (bytes : AreBytes (load elf)) where
-  pub passes_where_agrees : agrees v ≡ true → PassesFrom reset elf order_file trace_file
+  pub passes_where_agrees : is_agreement v ≡ true → PassesFrom reset elf order_file trace_file
   passes_where_agrees ok =
-      let none : difference is.told_harts is.harts is.lines is.effects ≡ None = agreed v (length (effects_of is.lines)) _ is.is ok in
+      let none : first_difference is.told_harts is.harts is.lines is.effects ≡ None = agreed v (length (effects_of is.lines)) _ is.is ok in
       let same : is.told_harts ≡ is.harts = same_harts is.told_harts is.harts _ none in
       let files : AreFiles is.harts is.order is.harts is.lines elf order_file trace_file =
       subst (λ n. AreFiles is.harts is.order n is.lines elf order_file trace_file) same is.files in (
@@ -130,11 +130,11 @@ module _ (reset : Reset) (small : IsInRange reset) (elf order_file trace_file : 
           files = files;
           plays = passes_where_none is.harts is.order is.lines is.effects (machine_at is.harts reset elf) is.end files.order_ranges.most
               (all_named is.harts is.order files.order_ranges.named) files.trace_ranges (in_range reset small is.harts files.order_ranges.most elf bytes) is.plays
-              (subst (λ n. difference n is.harts is.lines is.effects ≡ None) same none);
+              (subst (λ n. first_difference n is.harts is.lines is.effects ≡ None) same none);
         },
       )
 
-  pub agrees_where_passes : PassesFrom reset elf order_file trace_file → agrees v ≡ true
+  pub agrees_where_passes : PassesFrom reset elf order_file trace_file → is_agreement v ≡ true
   agrees_where_passes (harts, order, lines, by) =
       let told = orders.told is.harts is.order is.files.order_ranges in
       let others = orders.told harts order by.files.order_ranges in
@@ -144,11 +144,11 @@ module _ (reset : Reset) (small : IsInRange reset) (elf order_file trace_file : 
       let traces = injective is.told_harts harts is.lines lines is.files.trace_ranges by.files.trace_ranges (sym is.files.trace_is ∙ by.files.trace_is) in
       let plays : Plays (machine_at harts reset elf) order is.effects is.end =
       subst (λ o. Plays (machine_at harts reset elf) o is.effects is.end) same_order (subst (λ n. Plays (machine_at n reset elf) is.order is.effects is.end) same_count is.plays) in
-      let none : difference harts harts lines is.effects ≡ None =
+      let none : first_difference harts harts lines is.effects ≡ None =
       none_where_passes harts order lines is.effects (machine_at harts reset elf) is.end plays by.plays in
       agreeing v (length (effects_of is.lines)) _ is.is
-      (ap (λ n. difference n is.harts is.lines is.effects) traces.0 ∙ ap (λ n. difference harts n is.lines is.effects) same_count
-      ∙ ap (λ ls. difference harts harts ls is.effects) traces.1 ∙ none)
+      (ap (λ n. first_difference n is.harts is.lines is.effects) traces.0 ∙ ap (λ n. first_difference harts n is.lines is.effects) same_count
+      ∙ ap (λ ls. first_difference harts harts ls is.effects) traces.1 ∙ none)
 
 pub from_every : (reset : Reset) → IsInRange reset → (elf order_file trace_file : List ℕ) → Passes elf order_file trace_file → PassesFrom reset elf order_file trace_file
 from_every reset small elf order_file trace_file (harts, order, lines, by) =
@@ -164,17 +164,17 @@ machine_is reset harts elf ram m seen loaded each count =
     (λ i. record { seen = seen i; harts = (machine_seen m).harts })
     ∙ (λ i. record { seen = record { byte = λ a. sym (loaded a) i; link = λ h g. Some false }; harts = λ h. place h i })
   where
-    place : (h : ℕ) → (machine_seen m).harts h ≡ harts_at harts reset h
+    place : (h : ℕ) → (machine_seen m).harts h ≡ reset_harts harts reset h
     place h = of (nat_lt h harts) refl
       where
-        of : (b : Bool) → b ≡ nat_lt h harts → (machine_seen m).harts h ≡ cond b (reset_hart h reset) no_hart
+        of : (b : Bool) → b ≡ nat_lt h harts → (machine_seen m).harts h ≡ cond b (reset_hart h reset) absent_hart
         of true within = each h (grind (arith, nat_tests, within))
         of false past =
             let behind : harts ≤ h = grind (arith, nat_tests, past) in
-            ap (λ o. option_map_or hart_seen o no_hart) (slice_get_past m.harts.items h (subst (λ n. n ≤ h) (sym count) behind))
+            ap (λ o. option_map_or hart_seen o absent_hart) (slice_get_past m.harts.items h (subst (λ n. n ≤ h) (sym count) behind))
 
 -- the fault of a trace is told where the files before it have none
-pub trace_faulty : (elf order_file trace_file : List ℕ) (fault : ReplayFault) → fault_of elf ≡ None → order_fault order_file ≡ None
+pub trace_faulty : (elf order_file trace_file : List ℕ) (fault : ReplayFault) → file_fault elf ≡ None → order_fault order_file ≡ None
     → IsTraceFault (traces.trace_fault trace_file) fault → IsFaultOf elf order_file trace_file fault
 trace_faulty elf order_file trace_file (Elf fault) sound ordered is = absurd is
 trace_faulty elf order_file trace_file (Order fault) sound ordered is = absurd is

@@ -15,7 +15,7 @@ use Rattle.trace_text.specs.Text.{step_fields}
 use Rattle.boot_words.specs.Boot.{mret, spelled}
 use Rattle.boot_words.specs.Booting.{boot_steps}
 use Rattle.boot_words.specs.Passing.{BeginsWithBoot, behind_boots, effects_by}
-use Rattle.trace_replay.specs.Comparing.{Difference, StepAt, begins_with_boot, boot_differs, boots_differ, compared_fields, difference, field_differs, fields_differ, harts_differ, steps_at, steps_differ, untrapped}
+use Rattle.trace_replay.specs.Comparing.{Difference, StepAt, begins_with_boot, boot_differs, boots_differ, compared_fields, field_differs, fields_differ, first_difference, harts_differ, steps_at, steps_differ, untrapped}
 use Rattle.trace_replay.specs.declared.verdict.LineField.{LineField}
 use Rattle.trace_replay.specs.declared.verdict.LineField.TheVariants.{Boot}
 use Rattle.trace_replay.proofs.Spelt.{CanSpell, same_step}
@@ -175,7 +175,7 @@ pub record DoesWhatIsTold (harts : ℕ) (lines : List Line) (effects : List Effe
   pub behind : behind_boots [] effects ≡ effects_of lines
 
 pub none_found : (harts : ℕ) (lines : List Line) (effects : List Effect) → harts ≤ 2 ^ 64 → CanSpellAll harts (effects_of lines) → CanSpellAll harts (behind_boots [] effects)
-    → difference harts harts lines effects ≡ None → DoesWhatIsTold harts lines effects
+    → first_difference harts harts lines effects ≡ None → DoesWhatIsTold harts lines effects
 none_found harts lines effects most told found none =
     let first = neither (harts_differ harts harts) (option_or (boots_differ 0 harts effects) (steps_differ (2 + length lines) (steps_at 2 lines) (behind_boots [] effects))) none in
     let rest = neither (boots_differ 0 harts effects) (steps_differ (2 + length lines) (steps_at 2 lines) (behind_boots [] effects)) first.1 in
@@ -183,7 +183,7 @@ none_found harts lines effects most told found none =
     let same = same_steps harts (2 + length lines) (steps_at 2 lines) (behind_boots [] effects) most (subst (CanSpellAll harts) (sym lined) told) found rest.1 in
     record { boots = λ h below. boots_pass 0 harts effects rest.0 h (omega arith) (omega (arith, below)); behind = sym same ∙ lined }
 
-pub none_there : (harts : ℕ) (lines : List Line) (effects : List Effect) → DoesWhatIsTold harts lines effects → difference harts harts lines effects ≡ None
+pub none_there : (harts : ℕ) (lines : List Line) (effects : List Effect) → DoesWhatIsTold harts lines effects → first_difference harts harts lines effects ≡ None
 none_there harts lines effects does =
     let number : harts_differ harts harts ≡ None = rw (eq-eqb harts harts refl) refl in
     let boots = boots_told 0 harts effects (λ k from below. does.boots k (omega (arith, below))) in

@@ -5,7 +5,7 @@ use Rattle.std.specs.Fmt.{digits}
 use Rattle.rv_fields.specs.Effect.{Effect}
 use Rattle.trace_text.specs.Lines.{Line, done, ending, made, request}
 use Rattle.trace_fields.specs.declared.request.Kind.TheVariants.{Ins}
-use Rattle.trace_replay.specs.Comparing.{difference, steps_at, steps_differ}
+use Rattle.trace_replay.specs.Comparing.{first_difference, steps_at, steps_differ}
 use Rattle.trace_replay.specs.declared.verdict.LineField.TheVariants.{Boot, Hart, Harts, Rd}
 
 abbrev plain : ℕ → ℕ → Option (ℕ × ℕ) → Effect
@@ -38,7 +38,7 @@ unfolding digits
 one_too_many = refl
 
 -- two harts are told, and the order has one
-pub other_harts : difference 2 1 lines [] ≡ Some (record { line = 1; field = Harts; told = codes "2"; found = codes "1" })
+pub other_harts : first_difference 2 1 lines [] ≡ Some (record { line = 1; field = Harts; told = codes "2"; found = codes "1" })
 unfolding digits
 other_harts = refl
 
@@ -46,6 +46,6 @@ other_harts = refl
 abbrev boot_of : ℕ → List Effect
 boot_of steps = replicate steps (plain 0x80000000 0x00000013 None)
 
-pub short_boot : difference 1 1 lines (boot_of 69) ≡ Some (record { line = 1; field = Boot; told = codes "0"; found = codes "69" })
+pub short_boot : first_difference 1 1 lines (boot_of 69) ≡ Some (record { line = 1; field = Boot; told = codes "0"; found = codes "69" })
 unfolding digits
 short_boot = refl

@@ -8,7 +8,7 @@ use Rattle.trace_text.specs.Lines.{Line, effects_of, ending, found, made}
 use Rattle.trace_text.specs.Traces.{IsLine, IsStep, IsTrace}
 use Rattle.boot_words.specs.Booting.{boot_steps}
 use Rattle.boot_words.specs.Passing.{PlaysAsTold, behind_boots, effects_by}
-use Rattle.trace_replay.specs.Comparing.{difference}
+use Rattle.trace_replay.specs.Comparing.{first_difference}
 use Rattle.trace_replay.proofs.Differing.{none_found, none_there}
 use Rattle.trace_replay.proofs.Playing.{MachineInRange, one_play, play_spelled}
 use Rattle.trace_replay.proofs.Spelt.{CanSpell}
@@ -49,15 +49,15 @@ behind_spelled harts before (e ∷ effects) all =
 -- What is said here of a play is what `Passes` asks of the play from one choice of resets.
 pub passes_where_none : (harts : ℕ) (order : List ℕ) (lines : List Line) (effects : List Effect) (m end : Machine) → harts ≤ most_harts
     → AllByRecursion (λ h. h < harts) order → IsTrace harts lines → MachineInRange harts m → Plays m order effects end
-    → difference harts harts lines effects ≡ None → PlaysAsTold harts order (effects_of lines) m
+    → first_difference harts harts lines effects ≡ None → PlaysAsTold harts order (effects_of lines) m
 passes_where_none harts order lines effects m end few named trace range plays none =
     let does = none_found harts lines effects (omega arith) (lines_spelled harts lines trace.are_lines)
     (behind_spelled harts [] effects (play_spelled harts order effects m end range named plays)) none in
     record { effects = effects; end = end; plays = plays; boots = does.boots; behind = does.behind }
 
 pub none_where_passes : (harts : ℕ) (order : List ℕ) (lines : List Line) (effects : List Effect) (m end : Machine) → Plays m order effects end
-    → PlaysAsTold harts order (effects_of lines) m → difference harts harts lines effects ≡ None
+    → PlaysAsTold harts order (effects_of lines) m → first_difference harts harts lines effects ≡ None
 none_where_passes harts order lines effects m end plays told =
     let same = one_play order told.effects effects m told.end end told.plays plays in
-    subst (λ es. difference harts harts lines es ≡ None) same
+    subst (λ es. first_difference harts harts lines es ≡ None) same
     (none_there harts lines told.effects (record { boots = told.boots; behind = told.behind }))

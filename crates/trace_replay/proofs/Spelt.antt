@@ -6,8 +6,8 @@ use Rattle.std.proofs.lemmas.Option.{same_Some}
 use Rattle.rv_fields.specs.declared.access.Accessed.{Accessed}
 use Rattle.rv_fields.specs.declared.trap.Trap.{Trap}
 use Rattle.rv_fields.specs.Effect.{Effect, Entry}
-use Rattle.trace_fields.specs.Numbers.{decimal_below, word_of}
-use Rattle.trace_fields.specs.Readings.{access_of, hex_of, optional, trail_of, trap_of, write_of}
+use Rattle.trace_fields.specs.Numbers.{decimal_below, word_reading}
+use Rattle.trace_fields.specs.Readings.{access_reading, hex_reading, optional, trail_reading, trap_reading, write_reading}
 use Rattle.trace_fields.specs.Text.{access_text, hex, none_text, or_none, trail_text, trap_text, word_text, write_text}
 use Rattle.trace_text.specs.Text.{step_fields}
 use Rattle.trace_fields.specs.Ranges.{IsAccess, IsEntry, IsTrap, IsWrite}
@@ -34,11 +34,11 @@ one_to_one text reading Fits spells a b fits_a fits_b same = same_Some a b (sym 
 -- a number isn't spelled as nothing is
 hex_is_something : (n : ℕ) → n < 2 ^ 64 → hex n ≡ none_text → ⊥
 unfolding digits
-hex_is_something n small is = absurd (let none : None ≡ Some n = sym (ap hex_of is) ∙ hex_spells.again n small in cc)
+hex_is_something n small is = absurd (let none : None ≡ Some n = sym (ap hex_reading is) ∙ hex_spells.again n small in cc)
 
 word_is_something : (w : ℕ) → w < 2 ^ 32 → word_text w ≡ none_text → ⊥
 unfolding digits
-word_is_something w small is = absurd (let none : None ≡ Some w = sym (ap word_of is) ∙ word_spells.again w small in cc)
+word_is_something w small is = absurd (let none : None ≡ Some w = sym (ap word_reading is) ∙ word_spells.again w small in cc)
 
 field_at : (k : ℕ) (told found : List (List ℕ)) → told ≡ found → get_or told k [] ≡ get_or found k []
 field_at k told found same = ap (λ fields. get_or fields k []) same
@@ -50,13 +50,13 @@ effect_of_parts hart pc pa word rd access trail trap =
 pub same_step : (harts : ℕ) (t f : Effect) → harts ≤ 2 ^ 64 → CanSpell harts t → CanSpell harts f → step_fields t ≡ step_fields f → t ≡ f
 same_step harts t f most told found same =
     let hart : t.hart ≡ f.hart = one_to_one decimal (decimal_below harts) (λ h. h < harts) (hart_spells harts most) t.hart f.hart told.hart found.hart (field_at 0 _ _ same) in
-    let pc : t.pc ≡ f.pc = one_to_one hex hex_of (λ n. n < 2 ^ 64) hex_spells t.pc f.pc told.pc found.pc (field_at 1 _ _ same) in
-    let pa : t.pa ≡ f.pa = one_to_one (or_none hex) (optional hex_of) (λ o. IfSome o (λ n. n < 2 ^ 64)) (optional_spells hex_spells hex_is_something) t.pa f.pa told.pa found.pa (field_at 2 _ _ same) in
-    let word : t.word ≡ f.word = one_to_one (or_none word_text) (optional word_of) (λ o. IfSome o (λ w. w < 2 ^ 32)) (optional_spells word_spells word_is_something) t.word f.word told.word found.word (field_at 3 _ _ same) in
-    let rd : t.rd ≡ f.rd = one_to_one (or_none write_text) (optional write_of) (λ o. IfSome o IsWrite) optional_write_spells t.rd f.rd told.rd found.rd (field_at 4 _ _ same) in
-    let access : t.access ≡ f.access = one_to_one (or_none access_text) (optional access_of) (λ o. IfSome o IsAccess) optional_access_spells t.access f.access told.access found.access (field_at 5 _ _ same) in
-    let trail : t.trail ≡ f.trail = one_to_one trail_text trail_of (λ trail. (length trail ≤ 4) × AllByRecursion IsEntry trail) trail_spells t.trail f.trail told.trail found.trail (field_at 6 _ _ same) in
-    let trap : t.trap ≡ f.trap = one_to_one (or_none trap_text) (optional trap_of) (λ o. IfSome o IsTrap) optional_trap_spells t.trap f.trap told.trap found.trap (field_at 7 _ _ same) in
+    let pc : t.pc ≡ f.pc = one_to_one hex hex_reading (λ n. n < 2 ^ 64) hex_spells t.pc f.pc told.pc found.pc (field_at 1 _ _ same) in
+    let pa : t.pa ≡ f.pa = one_to_one (or_none hex) (optional hex_reading) (λ o. IfSome o (λ n. n < 2 ^ 64)) (optional_spells hex_spells hex_is_something) t.pa f.pa told.pa found.pa (field_at 2 _ _ same) in
+    let word : t.word ≡ f.word = one_to_one (or_none word_text) (optional word_reading) (λ o. IfSome o (λ w. w < 2 ^ 32)) (optional_spells word_spells word_is_something) t.word f.word told.word found.word (field_at 3 _ _ same) in
+    let rd : t.rd ≡ f.rd = one_to_one (or_none write_text) (optional write_reading) (λ o. IfSome o IsWrite) optional_write_spells t.rd f.rd told.rd found.rd (field_at 4 _ _ same) in
+    let access : t.access ≡ f.access = one_to_one (or_none access_text) (optional access_reading) (λ o. IfSome o IsAccess) optional_access_spells t.access f.access told.access found.access (field_at 5 _ _ same) in
+    let trail : t.trail ≡ f.trail = one_to_one trail_text trail_reading (λ trail. (length trail ≤ 4) × AllByRecursion IsEntry trail) trail_spells t.trail f.trail told.trail found.trail (field_at 6 _ _ same) in
+    let trap : t.trap ≡ f.trap = one_to_one (or_none trap_text) (optional trap_reading) (λ o. IfSome o IsTrap) optional_trap_spells t.trap f.trap told.trap found.trap (field_at 7 _ _ same) in
     ap (λ q. effect_of_parts q t.pc t.pa t.word t.rd t.access t.trail t.trap) hart
     ∙ ap (λ q. effect_of_parts f.hart q t.pa t.word t.rd t.access t.trail t.trap) pc
     ∙ ap (λ q. effect_of_parts f.hart f.pc q t.word t.rd t.access t.trail t.trap) pa

@@ -10,7 +10,7 @@ use Rattle.rv_fields.specs.declared.mode.Mode.TheVariants.{U}
 use Rattle.rv_fields.specs.declared.trap.Trap.{Trap}
 use Rattle.rv_step.specs.declared.hart.Stepped as code
 use Rattle.rv_step.specs.Views.{effect_seen}
-use Rattle.rv_machine.specs.Views.{IsTurn}
+use Rattle.rv_machine.specs.Views.{IsMachineTurn}
 use Rattle.rv_fields.proofs.Lists.{get_of_set_other, get_of_set_same}
 use Rattle.sv_walk.specs.declared.trail.Trail.{Trail}
 use Rattle.sv_walk.specs.Views.{entries_of, trail_seen}
@@ -20,7 +20,7 @@ use Rattle.boot_words.specs.Passing.{behind_boots, effects_by}
 use Rattle.trace_replay.specs.declared.boot.Boot.{Boot}
 use Rattle.trace_replay.specs.declared.comparison.Comparison.{Comparison}
 use Rattle.trace_replay.specs.declared.judge.Judge.{Judge}
-use Rattle.trace_replay.specs.Judging.{HasJudged, IsBootOf, IsCompared}
+use Rattle.trace_replay.specs.Judging.{HasJudgedSoFar, IsBootOf, IsCompared}
 use Rattle.trace_replay.proofs.Boots.{behind_more, by_more, stays}
 use Rattle.trace_replay.proofs.Entries.{entries_long}
 use Rattle.trace_replay.proofs.Trails.{step_told}
@@ -49,7 +49,7 @@ plays_on (g ∷ order) [] h m mid s plays does = absurd plays
 plays_on (g ∷ order) (e ∷ effects) h m mid s plays does = (plays.0, plays.1, plays.2, plays_on order effects h (after_step m g plays.0) mid s plays.3 does)
 
 -- what a turn tells has a short trail, and no trap that mode U handles
-pub turn_told : (hart : ℕ) (told : code.Stepped) (old new : Machine) → IsTurn hart told old new
+pub turn_told : (hart : ℕ) (told : code.Stepped) (old new : Machine) → IsMachineTurn hart told old new
     → (length (trail_seen told.trail) ≤ 3) × IfSome told.trap (λ trap. trap.to ≢ U)
 turn_told hart told old new is =
     let tells = step_told old.seen (old.harts hart) is.stepped is.step in (
@@ -62,7 +62,7 @@ turn_told hart told old new is =
     handled_by (Some t) h = h t refl
 
 -- the effect of a turn, and the machine behind it
-pub turns_on : (order : List ℕ) (effects : List Effect) (hart : ℕ) (told : code.Stepped) (m old new : Machine) → Plays m order effects old → IsTurn hart told old new
+pub turns_on : (order : List ℕ) (effects : List Effect) (hart : ℕ) (told : code.Stepped) (m old new : Machine) → Plays m order effects old → IsMachineTurn hart told old new
     → Plays m (order ++ hart ∷ []) (effects ++ effect_seen hart told ∷ []) new
 turns_on order effects hart told m old new plays is =
     subst (λ (e : Effect). Plays m (order ++ hart ∷ []) (effects ++ e ∷ []) new) is.effect
@@ -75,7 +75,7 @@ few_entries trail at pte few =
 
 -- ---- judging
 
-module _ (start : Unread) (effects : List Effect) (e : Effect) (judge : Judge) (is : HasJudged start effects judge) where
+module _ (start : Unread) (effects : List Effect) (e : Effect) (judge : Judge) (is : HasJudgedSoFar start effects judge) where
   -- a hart that isn't the one that stepped
   other : (h : ℕ) (boot : Boot) → eqb e.hart h ≡ false → IsBootOf boot (effects_by h effects) → IsBootOf boot (effects_by h (effects ++ e ∷ []))
   other h boot apart kept =
@@ -93,7 +93,7 @@ module _ (start : Unread) (effects : List Effect) (e : Effect) (judge : Judge) (
 
   -- its boot is over, and the step is compared
   pub judged_behind : (new : Comparison) → nat_le boot_steps (length (effects_by e.hart effects)) ≡ true → IsCompared start (behind_boots [] effects ++ e ∷ []) new
-      → HasJudged start (effects ++ e ∷ []) (record { boots = judge.boots; comparison = new })
+      → HasJudgedSoFar start (effects ++ e ∷ []) (record { boots = judge.boots; comparison = new })
   judged_behind new over compared = record {
     boots = λ h boot at. elim (eqb_tells e.hart h) [
       | inl same ↦ own h boot same.0 (stays boot (effects_by h effects) (e ∷ []) (is.boots h boot at) (subst (λ k. nat_le boot_steps (length (effects_by k effects)) ≡ true) same.1 over))
@@ -105,7 +105,7 @@ module _ (start : Unread) (effects : List Effect) (e : Effect) (judge : Judge) (
   -- its boot isn't over, and has one step more
   pub judged_boot : (place : ℕ) (more : Boot) → place ≡ e.hart → place < length judge.boots → nat_le boot_steps (length (effects_by e.hart effects)) ≡ false
       → IsBootOf more (effects_by e.hart effects ++ e ∷ [])
-      → HasJudged start (effects ++ e ∷ []) (record { boots = slice_set judge.boots place more; comparison = judge.comparison })
+      → HasJudgedSoFar start (effects ++ e ∷ []) (record { boots = slice_set judge.boots place more; comparison = judge.comparison })
   judged_boot place more here below booting kept = record {
     boots = λ h boot at. elim (eqb_tells e.hart h) [
       | inl same ↦

@@ -116,7 +116,7 @@ steps_differ behind (s ∷ steps) (e ∷ effects) =
 
 -- The numbers of harts that the trace and the order tell, the boots in rising order, and then the steps. The trace's second line is
 -- the first behind the one that tells its harts.
-abbrev pub difference : ℕ → ℕ → List Line → List Effect → Option Difference
-difference told_harts harts lines effects =
+abbrev pub first_difference : ℕ → ℕ → List Line → List Effect → Option Difference
+first_difference told_harts harts lines effects =
     option_or (harts_differ told_harts harts)
     (option_or (boots_differ 0 harts effects) (steps_differ (2 + length lines) (steps_at 2 lines) (behind_boots [] effects)))

@@ -86,9 +86,9 @@ pub record IsFinished (start : Unread) (behind : List Effect) (c : Comparison) :
   pub first_is : option_map difference_seen c.first ≡ compared start read behind
 
 -- The next line is read; where there is none, all lines are.
-abbrev pub ReadsLine : Option Line → Unread → Unread → Type 0
-ReadsLine None old new = HasRead [] old new × (new.text ≡ [])
-ReadsLine (Some line) old new = HasRead (line ∷ []) old new
+abbrev pub ReadsNextLine : Option Line → Unread → Unread → Type 0
+ReadsNextLine None old new = HasRead [] old new × (new.text ≡ [])
+ReadsNextLine (Some line) old new = HasRead (line ∷ []) old new
 
 -- ---- all of it
 
@@ -97,7 +97,7 @@ abbrev pub AreBoots : List Boot → List Effect → Type 0
 AreBoots boots effects = (h : ℕ) (boot : Boot) → slice_get boots h ≡ Some boot → IsBootOf boot (effects_by h effects)
 
 -- These effects were judged so far.
-pub record HasJudged (start : Unread) (effects : List Effect) (judge : Judge) : Type 0 where
+pub record HasJudgedSoFar (start : Unread) (effects : List Effect) (judge : Judge) : Type 0 where
   pub boots : AreBoots judge.boots effects
   pub compared : IsCompared start (behind_boots [] effects) judge.comparison
 

@@ -9,7 +9,7 @@ use Rattle.trace_text.specs.Traces.{IsTrace}
 use Rattle.boot_words.specs.Passing.{IsAtReset, PlaysAsTold}
 use Rattle.elf_file.specs.Loading.{load}
 use Rattle.rv_machine.specs.declared.reset.Reset.{Reset}
-use Rattle.rv_machine.specs.Views.{no_hart, reset_hart}
+use Rattle.rv_machine.specs.Views.{absent_hart, reset_hart}
 
 -- Three files are in their forms: one can be loaded, one spells an order of so many harts, and one spells lines of so many.
 pub record AreFiles (harts : ℕ) (order : List ℕ) (told_harts : ℕ) (lines : List Line) (elf order_file trace_file : List ℕ) : Type 0 where
@@ -35,12 +35,12 @@ Passes elf order_file trace_file = (harts : ℕ) × (order : List ℕ) × (lines
 -- ---- from one reset
 
 -- so many harts, each at this reset, and no other
-abbrev pub harts_at : ℕ → Reset → ℕ → Hart
-harts_at harts reset h = if nat_lt h harts then reset_hart h reset else no_hart
+abbrev pub reset_harts : ℕ → Reset → ℕ → Hart
+reset_harts harts reset h = if nat_lt h harts then reset_hart h reset else absent_hart
 
 -- they and the program, loaded afresh
 abbrev pub machine_at : ℕ → Reset → List ℕ → Machine
-machine_at harts reset elf = record { seen = record { byte = load elf; link = λ h g. Some false }; harts = harts_at harts reset }
+machine_at harts reset elf = record { seen = record { byte = load elf; link = λ h g. Some false }; harts = reset_harts harts reset }
 
 -- The same from this reset of each hart.
 pub record PassesFromBy (reset : Reset) (harts : ℕ) (order : List ℕ) (lines : List Line) (elf order_file trace_file : List ℕ) : Type 0 where

@@ -11,13 +11,13 @@ use Rattle.trace_text.specs.Orders.{order_fault}
 use Rattle.trace_fields.specs.Taking.{IsFault}
 use Rattle.trace_text.specs.Traces.{trace_fault}
 use Rattle.elf_file.specs.declared.fault.ElfFault.TheVariants as elf_fault
-use Rattle.elf_file.specs.Faults.{fault_of}
+use Rattle.elf_file.specs.Faults.{file_fault}
 use Rattle.trace_replay.specs.declared.verdict.Difference as code
 use Rattle.trace_replay.specs.declared.verdict.ReplayFault.{ReplayFault}
 use Rattle.trace_replay.specs.declared.verdict.ReplayFault.TheVariants.{Elf, Order, Trace, Memory}
 use Rattle.trace_replay.specs.declared.verdict.Verdict.{Verdict}
 use Rattle.trace_replay.specs.declared.verdict.Verdict.TheVariants.{Agrees, Differs}
-use Rattle.trace_replay.specs.Comparing.{Difference, difference, field_name}
+use Rattle.trace_replay.specs.Comparing.{Difference, field_name, first_difference}
 use Rattle.trace_replay.specs.Passes.{AreFiles, machine_at}
 
 -- a difference without where its texts lie in memory
@@ -41,11 +41,11 @@ pub record IsVerdict (reset : Reset) (elf order_file trace_file : List ℕ) (ver
   pub effects : List Effect
   pub end : Machine
   pub plays : Plays (machine_at harts reset elf) order effects end
-  pub is : IsOf verdict (length (effects_of lines)) (difference told_harts harts lines effects)
+  pub is : IsOf verdict (length (effects_of lines)) (first_difference told_harts harts lines effects)
 
-abbrev pub agrees : Verdict → Bool
-agrees (Agrees steps) = true
-agrees (Differs first) = false
+abbrev pub is_agreement : Verdict → Bool
+is_agreement (Agrees steps) = true
+is_agreement (Differs first) = false
 
 -- the fault of a trace, or memory ran out
 abbrev pub IsTraceFault : Option Place → ReplayFault → Type 0
@@ -56,11 +56,11 @@ IsTraceFault place Memory = Unit {0}
 
 -- The fault of the first of the three files that has one; or memory ran out.
 abbrev pub IsFaultOf : List ℕ → List ℕ → List ℕ → ReplayFault → Type 0
-IsFaultOf elf order_file trace_file (Elf fault) = (fault ≢ elf_fault.Memory) × (fault_of elf ≡ Some fault)
+IsFaultOf elf order_file trace_file (Elf fault) = (fault ≢ elf_fault.Memory) × (file_fault elf ≡ Some fault)
 IsFaultOf elf order_file trace_file (Order fault) =
-    (fault ≢ line_fault.Memory) × (fault_of elf ≡ None) × IsFault (order_fault order_file) fault
+    (fault ≢ line_fault.Memory) × (file_fault elf ≡ None) × IsFault (order_fault order_file) fault
 IsFaultOf elf order_file trace_file (Trace fault) =
-    (fault ≢ line_fault.Memory) × (fault_of elf ≡ None) × (order_fault order_file ≡ None) × IsFault (trace_fault trace_file) fault
+    (fault ≢ line_fault.Memory) × (file_fault elf ≡ None) × (order_fault order_file ≡ None) × IsFault (trace_fault trace_file) fault
 IsFaultOf elf order_file trace_file Memory = Unit {0}
 
 -- ---- what is printed of it

@@ -65,7 +65,7 @@ impl Difference {
 }
 
 impl<'a> Comparison<'a> {
-    ghost use Rattle.trace_replay.specs.Judging.{IsCompared, IsComparedBy, IsFinished, ReadsLine};
+    ghost use Rattle.trace_replay.specs.Judging.{IsCompared, IsComparedBy, IsFinished, ReadsNextLine};
     ghost use Rattle.trace_replay.specs.Verdicts.{IsTraceFault};
 
     /// Before the first line behind the trace's head, and before the first step.
@@ -168,7 +168,7 @@ impl<'a> Comparison<'a> {
     /// Reads the next line.
     fn next_line(&mut self, alloc: Global) -> Result<Option<Line>, ReplayFault>
         ensures next { MatchResult result
-            (λ next. ReadsLine (option_map line_seen next) (unread self.old.lines) (unread self.new.lines))
+            (λ next. ReadsNextLine (option_map line_seen next) (unread self.old.lines) (unread self.new.lines))
             (IsTraceFault (unread_fault (unread self.old.lines))) }
         ensures steps { self.new.steps ≡ self.old.steps }
         ensures first { self.new.first ≡ self.old.first }

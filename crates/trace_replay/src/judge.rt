@@ -8,7 +8,7 @@ ghost use Rattle.rv_machine.specs.Views.{machine_seen};
 ghost use Rattle.trace_text.specs.Lines.{Line, effects_of};
 ghost use Rattle.trace_text.specs.Reading.{Unread, unread, unread_fault};
 ghost use Rattle.boot_words.specs.Passing.{behind_boots};
-ghost use Rattle.trace_replay.specs.Comparing.{boots_differ, difference, steps_at, steps_differ};
+ghost use Rattle.trace_replay.specs.Comparing.{boots_differ, first_difference, steps_at, steps_differ};
 ghost use Rattle.trace_replay.specs.Verdicts.{IsOf};
 
 use crate::boot::Boot;
@@ -27,12 +27,12 @@ pub(crate) struct Judge<'a> {
 }
 
 impl<'a> Judge<'a> {
-    ghost use Rattle.trace_replay.specs.Judging.{AreBoots, HasJudged, HasPlayed, IsFinished};
+    ghost use Rattle.trace_replay.specs.Judging.{AreBoots, HasJudgedSoFar, HasPlayed, IsFinished};
     ghost use Rattle.trace_replay.specs.Verdicts.{IsTraceFault, difference_seen};
 
     /// Before the first step.
     pub(crate) fn new(lines: TraceLines<'a>) -> Judge<'a>
-        ensures { HasJudged (unread lines.entry) [] result }
+        ensures { HasJudgedSoFar (unread lines.entry) [] result }
     {
         Judge {
             boots: [Boot::new(); MOST_HARTS],
@@ -49,8 +49,8 @@ impl<'a> Judge<'a> {
     ) -> Result<(), ReplayFault>
         requires few { length machine.old.harts.items ≤ most_harts }
         requires named { All (λ hart. hart < length machine.old.harts.items) order.now }
-        ensures played { OnOk result ((start : Unread) → HasJudged start [] self.old → HasPlayed start (machine_seen machine.old) order.now self.new) }
-        ensures fault { IfErr result (λ fault. (start : Unread) → HasJudged start [] self.old → IsTraceFault (unread_fault start) fault) }
+        ensures played { OnOk result ((start : Unread) → HasJudgedSoFar start [] self.old → HasPlayed start (machine_seen machine.old) order.now self.new) }
+        ensures fault { IfErr result (λ fault. (start : Unread) → HasJudgedSoFar start [] self.old → IsTraceFault (unread_fault start) fault) }
     {
         for hart in order {
             let stepped = machine.turn(alloc, *hart)?;
@@ -64,9 +64,9 @@ impl<'a> Judge<'a> {
         requires hart { hart < most_harts }
         requires short { stepped.now.trail.len ≤ 4 }
         requires handled { IfSome stepped.now.trap (λ trap. trap.to ≢ U) }
-        ensures judged { OnOk result ((start : Unread) (effects : List Effect) → HasJudged start effects self.old
-            → HasJudged start (effects ++ effect_seen hart stepped.now ∷ []) self.new) }
-        ensures fault { IfErr result (λ fault. (start : Unread) (effects : List Effect) → HasJudged start effects self.old
+        ensures judged { OnOk result ((start : Unread) (effects : List Effect) → HasJudgedSoFar start effects self.old
+            → HasJudgedSoFar start (effects ++ effect_seen hart stepped.now ∷ []) self.new) }
+        ensures fault { IfErr result (λ fault. (start : Unread) (effects : List Effect) → HasJudgedSoFar start effects self.old
             → IsTraceFault (unread_fault start) fault) }
     {
         let place = usize::from(hart);
@@ -89,7 +89,7 @@ impl<'a> Judge<'a> {
         ensures { IfOk result (λ verdict. (lines : List Line) (effects : List Effect) → AreBoots self.entry.boots effects
             → self.entry.comparison.steps ≡ length (effects_of lines)
             → option_map difference_seen self.entry.comparison.first ≡ steps_differ (2 + length lines) (steps_at 2 lines) (behind_boots [] effects)
-            → IsOf verdict (length (effects_of lines)) (difference told_harts harts lines effects)) }
+            → IsOf verdict (length (effects_of lines)) (first_difference told_harts harts lines effects)) }
     {
         if told_harts != harts {
             let difference = Difference::of(alloc, 1, LineField::Harts, told_harts, harts)?;

@@ -8,10 +8,10 @@ ghost use Rattle.trace_text.specs.Orders.{IsOrder, order_fault};
 ghost use Rattle.trace_text.specs.Reading.{Begins, unread};
 ghost use Rattle.trace_text.specs.Text.{order_text};
 ghost use Rattle.trace_text.specs.Traces.{trace_fault};
-ghost use Rattle.elf_file.specs.Faults.{fault_of};
+ghost use Rattle.elf_file.specs.Faults.{file_fault};
 ghost use Rattle.elf_file.specs.Loading as loading;
 ghost use Rattle.trace_replay.specs.Passes.{Passes, PassesFrom};
-ghost use Rattle.trace_replay.specs.Verdicts.{IsFaultOf, IsTraceFault, IsVerdict, agrees};
+ghost use Rattle.trace_replay.specs.Verdicts.{IsFaultOf, IsTraceFault, IsVerdict, is_agreement};
 
 use crate::judge::Judge;
 use crate::verdict::{ReplayFault, Verdict};
@@ -35,9 +35,9 @@ pub fn replay(
     // It is that of the first difference between the trace and the play, by the order of comparing.
     ensures verdict { IfOk result (IsVerdict reset.now elf.now order.now trace.now) }
     // It agrees exactly where the files pass from this reset.
-    ensures agrees { IfOk result (λ verdict. (agrees verdict ≡ true) ↔ PassesFrom reset.now elf.now order.now trace.now) }
+    ensures agrees { IfOk result (λ verdict. (is_agreement verdict ≡ true) ↔ PassesFrom reset.now elf.now order.now trace.now) }
     // Files that pass from every reset agree, whatever this one is.
-    ensures passing { Passes elf.now order.now trace.now → IfOk result (λ verdict. agrees verdict ≡ true) }
+    ensures passing { Passes elf.now order.now trace.now → IfOk result (λ verdict. is_agreement verdict ≡ true) }
     // The fault is that of the first file that isn't in its form, or memory ran out.
     ensures fault { IfErr result (IsFaultOf elf.now order.now trace.now) }
 {
@@ -54,7 +54,7 @@ pub fn replay(
 /// The RAM that the program is loaded as.
 fn load(alloc: Global, elf: &[u8]) -> Result<Ram, ReplayFault>
     ensures loaded { IfOk result (λ ram. (a : ℕ) → loading.load elf.now a ≡ Some (memory ram a)) }
-    ensures sound { IfOk result (λ ram. fault_of elf.now ≡ None) }
+    ensures sound { IfOk result (λ ram. file_fault elf.now ≡ None) }
     ensures fault { IfErr result (λ fault. (order trace : List ℕ) → IsFaultOf elf.now order trace fault) }
 {
     read_elf(alloc, elf).map_err(ReplayFault::of_elf)
@@ -65,7 +65,7 @@ fn load(alloc: Global, elf: &[u8]) -> Result<Ram, ReplayFault>
 fn order_of(alloc: Global, order: &[u8]) -> Result<(u8, Vec<u8>), ReplayFault>
     ensures read { IfOk result (λ read. IsOrder read.0 read.1.items × (order.now ≡ order_text read.0 read.1.items)) }
     ensures sound { IfOk result (λ read. order_fault order.now ≡ None) }
-    ensures fault { IfErr result (λ fault. (elf trace : List ℕ) → fault_of elf ≡ None → IsFaultOf elf order.now trace fault) }
+    ensures fault { IfErr result (λ fault. (elf trace : List ℕ) → file_fault elf ≡ None → IsFaultOf elf order.now trace fault) }
 {
     read_order(alloc, order).map_err(ReplayFault::of_order)
 }

@@ -3,7 +3,7 @@ ghost use Rattle.std.specs.Prelude.{◌≡◌, ◌≢◌, ◌≤◌, IfSome, IsT
 ghost use Rattle.rv_fields.specs.declared.mode.Mode.TheVariants.{U};
 ghost use Rattle.rv_step.specs.Views as steps;
 ghost use Rattle.sv_walk.specs.Views.{trail_seen};
-ghost use Rattle.trace_text.specs.Views.{effect_seen};
+ghost use Rattle.trace_text.specs.Views.{step_seen};
 ghost use Rattle.trace_replay.specs.Shown.{field_text, shown_seen};
 
 use crate::verdict::LineField;
@@ -29,7 +29,7 @@ pub(crate) struct Shown {
 impl Shown {
     /// What a step line tells.
     pub(crate) fn told(step: &StepLine) -> Shown
-        ensures { shown_seen result ≡ effect_seen step.now }
+        ensures { shown_seen result ≡ step_seen step.now }
     {
         Shown {
             hart: step.hart,

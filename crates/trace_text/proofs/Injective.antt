@@ -7,7 +7,7 @@ use Rattle.rv_fields.specs.Play.{most_harts}
 use Rattle.trace_text.specs.Lines.{Line}
 use Rattle.trace_text.specs.Text.{line_body, line_text, trace_text}
 use Rattle.trace_text.specs.Forms.{lines_of_text}
-use Rattle.trace_fields.specs.Fields.{fields_of}
+use Rattle.trace_fields.specs.Fields.{fields_in}
 use Rattle.trace_text.specs.Orders.{number_in}
 use Rattle.trace_fields.specs.Readings.{all_of}
 use Rattle.trace_text.specs.Traces.{IsLine, IsTrace}
@@ -31,10 +31,10 @@ whole_cut harts lines is =
     trace_cut harts is.most lines ∙ ap (λ (ls : List (List ℕ)). header_line harts ∷ ls) (bodies_cut harts is.most lines is.are_lines)
 
 lines_again : (harts : ℕ) (lines : List Line) → IsTrace harts lines
-    → all_of (λ body. line_told harts (fields_of body)) (map line_body lines) ≡ Some lines
+    → all_of (λ body. line_told harts (fields_in body)) (map line_body lines) ≡ Some lines
 lines_again harts lines is =
     let most : harts ≤ most_harts = is.most in
-    all_again line_body (λ body. line_told harts (fields_of body)) (IsLine harts)
+    all_again line_body (λ body. line_told harts (fields_in body)) (IsLine harts)
     (λ l line. ap (line_told harts) (fields_again harts most l line) ∙ told_again harts (omega arith) l line)
     lines is.are_lines
 
@@ -46,9 +46,9 @@ injective h g ls ms is are same =
     let cut : header_line h ∷ bodies ls ≡ header_line g ∷ bodies ms = sym (whole_cut h ls is) ∙ ap lines_of_text same ∙ whole_cut g ms are in
     let parts = cons_same (header_line h) (header_line g) (bodies ls) (bodies ms) cut in
     let harts : h ≡ g =
-    sym (harts_told h is.most) ∙ ap (λ body. number_in (fields_of body) 2) parts.0 ∙ harts_told g are.most in
+    sym (harts_told h is.most) ∙ ap (λ body. number_in (fields_in body) 2) parts.0 ∙ harts_told g are.most in
     let lines : map line_body ls ≡ map line_body ms = append_cancel_right (map line_body ls) (map line_body ms) ([] ∷ []) parts.1 in
     let others : IsTrace h ms = subst (λ n. IsTrace n ms) (sym harts) are in (
       harts,
-      same_Some ls ms (sym (lines_again h ls is) ∙ ap (all_of (λ body. line_told h (fields_of body))) lines ∙ lines_again h ms others),
+      same_Some ls ms (sym (lines_again h ls is) ∙ ap (all_of (λ body. line_told h (fields_in body))) lines ∙ lines_again h ms others),
     )

@@ -10,7 +10,7 @@ use Rattle.trace_text.specs.Lines.{Line, request, picked, weighed, fixed, given,
 use Rattle.trace_fields.specs.Text.{hex, word_text, or_none, write_text, access_text, trap_text}
 use Rattle.trace_text.specs.Text.{step_fields, line_fields, line_body}
 use Rattle.trace_fields.specs.Numbers.{decimal_below}
-use Rattle.trace_fields.specs.Fields.{Test, fields_of, first_wrong, tells}
+use Rattle.trace_fields.specs.Fields.{FieldTest, fields_in, first_wrong, tells}
 use Rattle.trace_fields.specs.Ranges.{IsWrite, IsAccess, IsTrap}
 use Rattle.trace_text.specs.Traces.{IsStep, IsLine, step_tests, tests_for, line_forms}
 use Rattle.trace_fields.proofs.Joins.{Lacks}
@@ -109,7 +109,7 @@ some_fields (ending e) = omega arith
 some_fields (done hart k) = omega arith
 some_fields (refused hart k cause preamble) = omega arith
 
-pub fields_again : (harts : ℕ) → harts ≤ most_harts → (l : Line) → IsLine harts l → fields_of (line_body l) ≡ line_fields l
+pub fields_again : (harts : ℕ) → harts ≤ most_harts → (l : Line) → IsLine harts l → fields_in (line_body l) ≡ line_fields l
 fields_again harts most l is = cut_fields (line_fields l) (some_fields l) (fields_visible harts most l is)
 
 pub body_lacks_newline : (harts : ℕ) → harts ≤ most_harts → (l : Line) → IsLine harts l → Lacks 0x0a (line_body l)
@@ -118,10 +118,10 @@ body_lacks_newline harts most l is = no_newline (line_fields l) (fields_visible 
 -- The fields of a line pass the tests of its kind.
 
 -- each field passes its test, and there are as many of each
-abbrev pub Pass : List Test → List (List ℕ) → Type 0
-Pass tests fields = AllZip (λ (test : Test) (field : List ℕ). test field ≡ true) tests fields
+abbrev pub Pass : List FieldTest → List (List ℕ) → Type 0
+Pass tests fields = AllZip (λ (test : FieldTest) (field : List ℕ). test field ≡ true) tests fields
 
-pub none_wrong : (number : ℕ) (tests : List Test) (fields : List (List ℕ)) → Pass tests fields → first_wrong number tests fields ≡ None
+pub none_wrong : (number : ℕ) (tests : List FieldTest) (fields : List (List ℕ)) → Pass tests fields → first_wrong number tests fields ≡ None
 none_wrong number [] [] pass = refl
 none_wrong number [] (f ∷ fs) pass = absurd pass
 none_wrong number (t ∷ ts) [] pass = absurd pass

@@ -5,7 +5,7 @@ use Rattle.trace_fields.specs.declared.fields.Fields.{Fields}
 use Rattle.trace_fields.specs.declared.fault.LineFault.{LineFault}
 use Rattle.std.specs.Prelude.{◌==◌}
 use Rattle.std.proofs.lemmas.List.Splits.{length-slice_split}
-use Rattle.trace_fields.specs.Fields.{is_word, fields_of}
+use Rattle.trace_fields.specs.Fields.{is_word, fields_in}
 use Rattle.trace_fields.specs.Taking.{Left, left, whole_line, Took, IsWrongBy}
 use Rattle.trace_fields.proofs.Taken.{behind, word_passes}
 use Rattle.trace_text.specs.declared.line.Line as code
@@ -47,7 +47,7 @@ pub took_letter : {start after : Fields} {field : List ℕ} (letter : ℕ) → T
 took_letter {start} {after} {field} letter took some few is = subst (Took start after) (one_letter field letter some few is) took
 
 -- a line has a field, if an empty one
-pub some_field : {start : Left} {line : ℕ} {fields : List (List ℕ)} (text : List ℕ) → start ≡ whole_line line fields → fields ≡ fields_of text
+pub some_field : {start : Left} {line : ℕ} {fields : List (List ℕ)} (text : List ℕ) → start ≡ whole_line line fields → fields ≡ fields_in text
     → start.fields ≡ [] → ⊥
 some_field {start} {line} {fields} text starts are none =
     omega (arith, length-slice_split (λ b. b == 0x20) text, ap length (sym are ∙ sym (ap (λ (l : Left). l.fields) starts) ∙ none))

@@ -7,8 +7,8 @@ use Rattle.rv_fields.specs.Effect.{Effect}
 use Rattle.trace_text.specs.Lines.{Line, request, picked, weighed, fixed, given, settled, touched, made, found, ending, done, refused}
 use Rattle.trace_fields.specs.Text.{hex, word_text, or_none, write_text, access_text, trail_text, trap_text}
 use Rattle.trace_text.specs.Text.{line_fields}
-use Rattle.trace_fields.specs.Numbers.{decimal_below, word_of}
-use Rattle.trace_fields.specs.Readings.{kind_of, cause_of, preambles, name_of, count_of, number_of, hex_of, register_of, space_of, path_of, bytes_of, optional, write_of, access_of, trap_of, trail_of}
+use Rattle.trace_fields.specs.Numbers.{decimal_below, word_reading}
+use Rattle.trace_fields.specs.Readings.{kind_reading, cause_reading, preambles, name_reading, count_reading, number_reading, hex_reading, register_reading, space_reading, path_reading, bytes_reading, optional, write_reading, access_reading, trap_reading, trail_reading}
 use Rattle.trace_text.specs.Traces.{IsStep, IsLine}
 use Rattle.trace_fields.proofs.Agains.{there_again}
 use Rattle.trace_fields.proofs.Spellings.{hart_spells, count_spells, hex_spells, space_spells, register_spells, word_spells, preamble_spells, kind_spells, cause_spells, name_spells, path_spells, bytes_spells, trail_spells, optional_write_spells, optional_access_spells, optional_trap_spells}
@@ -17,66 +17,66 @@ use Rattle.trace_fields.proofs.Spellings.{hart_spells, count_spells, hex_spells,
 
 abbrev request_told : ℕ → List (List ℕ) → Option Line
 request_told hart (k ∷ kind ∷ []) = do
-  n ← count_of k
-  c ← kind_of kind
+  n ← count_reading k
+  c ← kind_reading kind
   Some (request hart n c)
 request_told hart fields = None
 
 abbrev picked_told : ℕ → List (List ℕ) → Option Line
 picked_told hart (tree ∷ leaf ∷ drawn ∷ []) = do
-  t ← name_of tree
-  l ← name_of leaf
-  d ← hex_of drawn
+  t ← name_reading tree
+  l ← name_reading leaf
+  d ← hex_reading drawn
   Some (picked hart t l d)
 picked_told hart fields = None
 
 abbrev weighed_told : ℕ → List (List ℕ) → Option Line
 weighed_told hart (tree ∷ path ∷ weight ∷ []) = do
-  t ← name_of tree
-  p ← path_of path
-  w ← count_of weight
+  t ← name_reading tree
+  p ← path_reading path
+  w ← count_reading weight
   Some (weighed hart t p w)
 weighed_told hart fields = None
 
 abbrev fixed_told : ℕ → List (List ℕ) → Option Line
 fixed_told hart (register ∷ value ∷ []) = do
-  r ← register_of register
-  v ← hex_of value
+  r ← register_reading register
+  v ← hex_reading value
   Some (fixed hart r v)
 fixed_told hart fields = None
 
 abbrev given_told : ℕ → List (List ℕ) → Option Line
 given_told hart (object ∷ page ∷ frame ∷ []) = do
-  o ← name_of object
-  p ← count_of page
-  f ← count_of frame
+  o ← name_reading object
+  p ← count_reading page
+  f ← count_reading frame
   Some (given hart o p f)
 given_told hart fields = None
 
 abbrev settled_told : ℕ → List (List ℕ) → Option Line
 settled_told hart (space ∷ at ∷ pte ∷ []) = do
-  s ← space_of space
-  a ← hex_of at
-  p ← hex_of pte
+  s ← space_reading space
+  a ← hex_reading at
+  p ← hex_reading pte
   Some (settled hart s (record { at = a; pte = p }))
 settled_told hart fields = None
 
 abbrev touched_told : ℕ → List (List ℕ) → Option Line
 touched_told hart (at ∷ bytes ∷ []) = do
-  a ← hex_of at
-  b ← bytes_of bytes
+  a ← hex_reading at
+  b ← bytes_reading bytes
   Some (touched hart a b)
 touched_told hart fields = None
 
 abbrev effect_told : ℕ → List (List ℕ) → Option Effect
 effect_told hart (pc ∷ pa ∷ word ∷ rd ∷ access ∷ trail ∷ trap ∷ []) = do
-  c ← hex_of pc
-  p ← option_map Some (hex_of pa)
-  w ← option_map Some (word_of word)
-  r ← optional write_of rd
-  a ← optional access_of access
-  t ← trail_of trail
-  f ← optional trap_of trap
+  c ← hex_reading pc
+  p ← option_map Some (hex_reading pa)
+  w ← option_map Some (word_reading word)
+  r ← optional write_reading rd
+  a ← optional access_reading access
+  t ← trail_reading trail
+  f ← optional trap_reading trap
   Some (record { hart = hart; pc = c; pa = p; word = w; rd = r; access = a; trail = t; trap = f })
 effect_told hart fields = None
 
@@ -87,15 +87,15 @@ step_told line hart fields = do
 
 abbrev done_told : ℕ → List (List ℕ) → Option Line
 done_told hart (k ∷ []) = do
-  n ← count_of k
+  n ← count_reading k
   Some (done hart n)
 done_told hart fields = None
 
 abbrev refused_told : ℕ → List (List ℕ) → Option Line
 refused_told hart (k ∷ cause ∷ preamble ∷ []) = do
-  n ← count_of k
-  c ← cause_of cause
-  p ← number_of preambles preamble
+  n ← count_reading k
+  c ← cause_reading cause
+  p ← number_reading preambles preamble
   Some (refused hart n c p)
 refused_told hart fields = None
 
@@ -131,8 +131,8 @@ effect_fields e =
 
 effect_again : (e : Effect) → IsStep e → effect_told e.hart (effect_fields e) ≡ Some e
 effect_again e is =
-    λ i. hex_spells.again e.pc is.pc i >>= (λ c. there_again hex hex_of (λ n. n < 2 ^ 64) hex_spells.again e.pa is.pa i >>= (λ p.
-    there_again word_text word_of (λ w. w < 2 ^ 32) word_spells.again e.word is.word i >>= (λ w.
+    λ i. hex_spells.again e.pc is.pc i >>= (λ c. there_again hex hex_reading (λ n. n < 2 ^ 64) hex_spells.again e.pa is.pa i >>= (λ p.
+    there_again word_text word_reading (λ w. w < 2 ^ 32) word_spells.again e.word is.word i >>= (λ w.
     optional_write_spells.again e.rd is.rd i >>= (λ r. optional_access_spells.again e.access is.access i >>= (λ a.
     trail_spells.again e.trail (is.short, is.trail) i >>= (λ t. optional_trap_spells.again e.trap is.trap i >>= (λ f.
     Some (record { hart = e.hart; pc = c; pa = p; word = w; rd = r; access = a; trail = t; trap = f }))))))))

@@ -13,8 +13,8 @@ use Rattle.trace_text.specs.Text.{Turns, with_turn, turns_of, turns_fields, turn
 use Rattle.trace_fields.specs.Text.{joined_by, space_byte}
 use Rattle.trace_fields.specs.Numbers.{decimal_below}
 use Rattle.trace_text.specs.Forms.{lines_of_text, fault_from, wrong_in, wrong_at_end, first_fault}
-use Rattle.trace_fields.specs.Fields.{fields_of, is_another_hart, is_decimal}
-use Rattle.trace_text.specs.Orders.{order_form, turns, steps_of, number_in, most_steps}
+use Rattle.trace_fields.specs.Fields.{fields_in, is_another_hart, is_decimal}
+use Rattle.trace_text.specs.Orders.{order_form, turns_so_far, steps_of, number_in, most_steps}
 use Rattle.trace_fields.proofs.Numerals.{again}
 use Rattle.trace_text.proofs.Faults.{step}
 use Rattle.trace_fields.proofs.WordBytes.{IsVisible}
@@ -41,7 +41,7 @@ turns_visible t small = (decimal_visible t.hart small.hart, (decimal_visible t.c
 pub line_of : (t : Turns) (rest : List ℕ) → Small t → lines_of_text (turns_text t ++ rest) ≡ turns_line t ∷ lines_of_text rest
 line_of t rest small = cut_line (turns_line t) rest (no_newline (turns_fields t) (turns_visible t small))
 
-pub fields_of_line : (t : Turns) → Small t → fields_of (turns_line t) ≡ decimal t.hart ∷ decimal t.count ∷ []
+pub fields_of_line : (t : Turns) → Small t → fields_in (turns_line t) ≡ decimal t.hart ∷ decimal t.count ∷ []
 fields_of_line t small = cut_fields (turns_fields t) (omega arith) (turns_visible t small)
 
 abbrev pub Another : Option ℕ → ℕ → Type 0
@@ -76,28 +76,28 @@ small_turns : (harts steps : ℕ) (t : Turns) → harts ≤ most_harts → t.har
 small_turns harts steps t few below fits = record { hart = omega arith; count = omega arith }
 
 pub passes : (harts : ℕ) (last : Option ℕ) (steps : ℕ) (t : Turns) → harts ≤ most_harts → t.hart < harts → Another last t.hart → 1 ≤ t.count
-    → steps + t.count ≤ most_steps → wrong_in order_form (turns harts last steps) (fields_of (turns_line t)) ≡ None
+    → steps + t.count ≤ most_steps → wrong_in order_form (turns_so_far harts last steps) (fields_in (turns_line t)) ≡ None
 passes harts last steps t few below other some fits =
     let small = small_turns harts steps t few below fits in
-    ap (wrong_in order_form (turns harts last steps)) (fields_of_line t small)
+    ap (wrong_in order_form (turns_so_far harts last steps)) (fields_of_line t small)
     ∙ both_pass (is_another_hart harts last (decimal t.hart)) (is_decimal 1 (most_steps - steps + 1) (decimal t.count))
     (another_passes harts last t.hart below small.hart other) (count_passes (most_steps - steps + 1) t.count some (omega arith) small.count)
 
 pub no_fault : (harts : ℕ) (last : Option ℕ) (steps line : ℕ) (ts : List Turns) → harts ≤ most_harts → 1 < line → AreTurns harts last steps ts
-    → fault_from order_form (turns harts last steps) line (lines_of_text (flat_map turns_text ts)) ≡ None
-no_fault harts last steps line [] few behind are = ap (λ b. cond b None (Some (record { line = line; field = wrong_at_end order_form (turns harts last steps) (fields_of []) }))) (lt-ltb 1 line behind)
+    → fault_from order_form (turns_so_far harts last steps) line (lines_of_text (flat_map turns_text ts)) ≡ None
+no_fault harts last steps line [] few behind are = ap (λ b. cond b None (Some (record { line = line; field = wrong_at_end order_form (turns_so_far harts last steps) (fields_in []) }))) (lt-ltb 1 line behind)
 no_fault harts last steps line (t ∷ ts) few behind are =
     let small = small_turns harts steps t few are.0 are.3 in
     let rest = flat_map turns_text ts in
-    let fields : fields_of (turns_line t) ≡ decimal t.hart ∷ decimal t.count ∷ [] = fields_of_line t small in
-    let hart : number_in (fields_of (turns_line t)) 0 ≡ t.hart = ap (λ (fs : List (List ℕ)). number_in fs 0) fields ∙ value_of_decimal t.hart small.hart in
-    let count : number_in (fields_of (turns_line t)) 1 ≡ t.count = ap (λ (fs : List (List ℕ)). number_in fs 1) fields ∙ value_of_decimal t.count small.count in
+    let fields : fields_in (turns_line t) ≡ decimal t.hart ∷ decimal t.count ∷ [] = fields_of_line t small in
+    let hart : number_in (fields_in (turns_line t)) 0 ≡ t.hart = ap (λ (fs : List (List ℕ)). number_in fs 0) fields ∙ value_of_decimal t.hart small.hart in
+    let count : number_in (fields_in (turns_line t)) 1 ≡ t.count = ap (λ (fs : List (List ℕ)). number_in fs 1) fields ∙ value_of_decimal t.count small.count in
     let right = passes harts last steps t few are.0 are.1 are.2 are.3 in
-    ap (fault_from order_form (turns harts last steps) line) (line_of t rest small)
-    ∙ step order_form (turns harts last steps) line (turns_line t) rest
-    ∙ ap (λ w. first_fault line w (fault_from order_form (turns harts (Some (number_in (fields_of (turns_line t)) 0)) (steps + number_in (fields_of (turns_line t)) 1)) (line + 1) (lines_of_text rest))) right
-    ∙ ap (λ h. fault_from order_form (turns harts (Some h) (steps + number_in (fields_of (turns_line t)) 1)) (line + 1) (lines_of_text rest)) hart
-    ∙ ap (λ n. fault_from order_form (turns harts (Some t.hart) (steps + n)) (line + 1) (lines_of_text rest)) count
+    ap (fault_from order_form (turns_so_far harts last steps) line) (line_of t rest small)
+    ∙ step order_form (turns_so_far harts last steps) line (turns_line t) rest
+    ∙ ap (λ w. first_fault line w (fault_from order_form (turns_so_far harts (Some (number_in (fields_in (turns_line t)) 0)) (steps + number_in (fields_in (turns_line t)) 1)) (line + 1) (lines_of_text rest))) right
+    ∙ ap (λ h. fault_from order_form (turns_so_far harts (Some h) (steps + number_in (fields_in (turns_line t)) 1)) (line + 1) (lines_of_text rest)) hart
+    ∙ ap (λ n. fault_from order_form (turns_so_far harts (Some t.hart) (steps + n)) (line + 1) (lines_of_text rest)) count
     ∙ no_fault harts (Some t.hart) (steps + t.count) (line + 1) ts few (omega arith) are.4
 
 -- the steps of turns
@@ -111,11 +111,11 @@ told_steps harts last steps (t ∷ ts) few are =
     let small = small_turns harts steps t few are.0 are.3 in
     let rest = flat_map turns_text ts in
     let tail = flat_map steps_of (lines_of_text rest) in
-    let fields : fields_of (turns_line t) ≡ decimal t.hart ∷ decimal t.count ∷ [] = fields_of_line t small in
-    let hart : number_in (fields_of (turns_line t)) 0 ≡ t.hart = ap (λ (fs : List (List ℕ)). number_in fs 0) fields ∙ value_of_decimal t.hart small.hart in
-    let count : number_in (fields_of (turns_line t)) 1 ≡ t.count = ap (λ (fs : List (List ℕ)). number_in fs 1) fields ∙ value_of_decimal t.count small.count in
+    let fields : fields_in (turns_line t) ≡ decimal t.hart ∷ decimal t.count ∷ [] = fields_of_line t small in
+    let hart : number_in (fields_in (turns_line t)) 0 ≡ t.hart = ap (λ (fs : List (List ℕ)). number_in fs 0) fields ∙ value_of_decimal t.hart small.hart in
+    let count : number_in (fields_in (turns_line t)) 1 ≡ t.count = ap (λ (fs : List (List ℕ)). number_in fs 1) fields ∙ value_of_decimal t.count small.count in
     ap (λ (ls : List (List ℕ)). flat_map steps_of ls) (line_of t rest small)
-    ∙ ap (λ n. replicate n (number_in (fields_of (turns_line t)) 0) ++ tail) count
+    ∙ ap (λ n. replicate n (number_in (fields_in (turns_line t)) 0) ++ tail) count
     ∙ ap (λ h. replicate t.count h ++ tail) hart
     ∙ ap (λ (l : List ℕ). steps_in t ++ l) (told_steps harts (Some t.hart) (steps + t.count) ts few are.4)
 

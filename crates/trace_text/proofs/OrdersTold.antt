@@ -9,8 +9,8 @@ use Rattle.trace_fields.specs.Taking.{IsFault}
 use Rattle.std.specs.List.{flat_map}
 use Rattle.std.proofs.lemmas.List.{length-append, length-replicate}
 use Rattle.trace_text.specs.Forms.{lines_of_text, fault_from, first_fault}
-use Rattle.trace_fields.specs.Fields.{fields_of}
-use Rattle.trace_text.specs.Orders.{IsOrder, order_form, nothing, turns, steps_of, order_fault, order_told, harts_told, number_in}
+use Rattle.trace_fields.specs.Fields.{fields_in}
+use Rattle.trace_text.specs.Orders.{IsOrder, order_form, nothing, turns_so_far, steps_of, order_fault, order_told, harts_told, number_in}
 use Rattle.trace_text.specs.Text.{order_text, turns_of, turns_text, header_body}
 use Rattle.trace_text.proofs.Faults.{step}
 use Rattle.trace_fields.proofs.WordBytes.{IsVisible}
@@ -34,16 +34,16 @@ told harts order is =
     let header = header_body (codes "order") harts in
     let few : harts ≤ most_harts = is.most in
     let cut : lines_of_text text ≡ header ∷ lines_of_text rest = header_cut (codes "order") order_visible harts few rest in
-    let number : number_in (fields_of header) 2 ≡ harts = header_number (codes "order") order_visible harts few in
+    let number : number_in (fields_in header) 2 ≡ harts = header_number (codes "order") order_visible harts few in
     let are = turns_are harts order is.named is.short in
     let sound : order_fault text ≡ None =
     ap (fault_from order_form nothing 1) cut
     ∙ step order_form nothing 1 header rest
-    ∙ ap (λ w. first_fault 1 w (fault_from order_form (turns (number_in (fields_of header) 2) None 0) 2 (lines_of_text rest))) (header_right (codes "order") order_visible harts few is.some)
-    ∙ ap (λ n. fault_from order_form (turns n None 0) 2 (lines_of_text rest)) number
+    ∙ ap (λ w. first_fault 1 w (fault_from order_form (turns_so_far (number_in (fields_in header) 2) None 0) 2 (lines_of_text rest))) (header_right (codes "order") order_visible harts few is.some)
+    ∙ ap (λ n. fault_from order_form (turns_so_far n None 0) 2 (lines_of_text rest)) number
     ∙ no_fault harts None 0 2 ts few (omega arith) are in (
       sound,
-      ap (λ (ls : List (List ℕ)). number_in (fields_of (get_or ls 0 [])) 2) cut ∙ number,
+      ap (λ (ls : List (List ℕ)). number_in (fields_in (get_or ls 0 [])) 2) cut ∙ number,
       ap (λ (ls : List (List ℕ)). flat_map steps_of (drop 1 ls)) cut ∙ told_steps harts None 0 ts few are ∙ steps_of_turns order,
     )
 

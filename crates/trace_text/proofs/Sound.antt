@@ -6,7 +6,7 @@ use Rattle.rv_fields.specs.Play.{most_harts}
 use Rattle.trace_text.specs.Lines.{Line}
 use Rattle.trace_text.specs.Text.{line_body, line_text, trace_text, header_body}
 use Rattle.trace_text.specs.Forms.{lines_of_text, first_fault, fault_from, wrong_in, wrong_at_end}
-use Rattle.trace_fields.specs.Fields.{fields_of}
+use Rattle.trace_fields.specs.Fields.{fields_in}
 use Rattle.trace_text.specs.Orders.{number_in}
 use Rattle.trace_text.specs.Traces.{IsLine, IsTrace, trace_form, trace_fault}
 use Rattle.trace_text.proofs.Faults.{step}
@@ -22,7 +22,7 @@ abbrev pub header_line : ℕ → List ℕ
 header_line harts = header_body (codes "trace") harts
 
 module _ (harts : ℕ) (most : harts ≤ most_harts) where
-  pub harts_told : number_in (fields_of (header_line harts)) 2 ≡ harts
+  pub harts_told : number_in (fields_in (header_line harts)) 2 ≡ harts
   harts_told = header_number (codes "trace") trace_visible harts most
 
   -- the lines of a trace's text
@@ -33,13 +33,13 @@ module _ (harts : ℕ) (most : harts ≤ most_harts) where
       → lines_of_text (flat_map line_text (l ∷ lines)) ≡ line_body l ∷ lines_of_text (flat_map line_text lines)
   line_cut l lines is = cut_line (line_body l) (flat_map line_text lines) (body_lacks_newline harts most l is)
 
-  line_right : (l : Line) → IsLine harts l → wrong_in trace_form (Some harts) (fields_of (line_body l)) ≡ None
+  line_right : (l : Line) → IsLine harts l → wrong_in trace_form (Some harts) (fields_in (line_body l)) ≡ None
   line_right l is = ap (wrong_in trace_form (Some harts)) (fields_again harts most l is) ∙ fields_right harts most l is
 
   no_fault : (line : ℕ) (lines : List Line) → 1 < line → AllByRecursion (IsLine harts) lines
       → fault_from trace_form (Some harts) line (lines_of_text (flat_map line_text lines)) ≡ None
   no_fault line [] behind are =
-      ap (λ b. cond b None (Some (record { line = line; field = wrong_at_end trace_form (Some harts) (fields_of []) }))) (lt-ltb 1 line behind)
+      ap (λ b. cond b None (Some (record { line = line; field = wrong_at_end trace_form (Some harts) (fields_in []) }))) (lt-ltb 1 line behind)
   no_fault line (l ∷ lines) behind are =
       let rest = flat_map line_text lines in
       ap (fault_from trace_form (Some harts) line) (line_cut l lines are.0)
@@ -53,6 +53,6 @@ sound harts lines is =
     let body = header_line harts in
     ap (fault_from trace_form None 1) (trace_cut harts is.most lines)
     ∙ step trace_form None 1 body rest
-    ∙ ap (λ wrong. first_fault 1 wrong (fault_from trace_form (Some (number_in (fields_of body) 2)) 2 (lines_of_text rest))) (header_right (codes "trace") trace_visible harts is.most is.some)
+    ∙ ap (λ wrong. first_fault 1 wrong (fault_from trace_form (Some (number_in (fields_in body) 2)) 2 (lines_of_text rest))) (header_right (codes "trace") trace_visible harts is.most is.some)
     ∙ ap (λ n. fault_from trace_form (Some n) 2 (lines_of_text rest)) (harts_told harts is.most)
     ∙ no_fault harts is.most 2 lines (omega arith) is.are_lines

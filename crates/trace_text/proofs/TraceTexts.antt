@@ -10,7 +10,7 @@ use Rattle.rv_fields.specs.Play.{most_harts}
 use Rattle.trace_fields.specs.declared.fault.LineFault.{LineFault}
 use Rattle.trace_fields.specs.declared.fault.LineFault.TheVariants.{At, Memory}
 use Rattle.trace_text.specs.declared.line.Line as code
-use Rattle.trace_fields.specs.Fields.{fields_of}
+use Rattle.trace_fields.specs.Fields.{fields_in}
 use Rattle.trace_text.specs.Forms.{lines_of_text, wrong_in}
 use Rattle.trace_text.specs.Lines.{Line}
 use Rattle.trace_fields.specs.Taking.{IsFault, IsWrongBy, whole_line}
@@ -39,7 +39,7 @@ cut_text rest first behind cut =
     ∙ ap (λ (l : List ℕ). first ++ 0x0a ∷ l) (join_with_byte-slice_split 0x0a behind)
 
 -- a text whose fields are these
-pub fields_text : (text : List ℕ) (fields : List (List ℕ)) → fields_of text ≡ fields → text ≡ join_with_byte 0x20 fields
+pub fields_text : (text : List ℕ) (fields : List (List ℕ)) → fields_in text ≡ fields → text ≡ join_with_byte 0x20 fields
 fields_text text fields are = sym (join_with_byte-slice_split 0x20 text) ∙ ap (join_with_byte 0x20) are
 
 -- a line that is read has no wrong field
@@ -49,12 +49,12 @@ right_line harts few l fields are is = ap (wrong_in trace_form (Some harts)) are
 
 -- The fault of a line that no newline ends.
 pub open_line : (harts number : ℕ) (text : List ℕ) (read : Result code.Line LineFault) (fault : LineFault) → harts ≤ most_harts
-    → MatchResult read (λ l. (fields_of text ≡ line_fields (line_seen l)) × IsLine harts (line_seen l))
-    (λ f. IsWrongBy (trace_tests (Some harts) (fields_of text)) (whole_line number (fields_of text)) f)
+    → MatchResult read (λ l. (fields_in text ≡ line_fields (line_seen l)) × IsLine harts (line_seen l))
+    (λ f. IsWrongBy (trace_tests (Some harts) (fields_in text)) (whole_line number (fields_in text)) f)
     → MatchResult read (λ l. fault ≡ At number (length (line_fields (line_seen l)) + 1)) (λ f. fault ≡ f)
     → IsFaultAtEnd trace_form (Some harts) number text fault
 open_line harts number text (Ok l) fault few reads is =
-    let fields = fields_of text in
+    let fields = fields_in text in
     let right = right_line harts few (line_seen l) fields reads.0 reads.1 in
     let field = ap (λ w. unwrap_or w (length fields + 1)) right ∙ ap (λ fs. length fs + 1) reads.0 in
     subst (IsFaultAtEnd trace_form (Some harts) number text) (sym is) (ap (λ k. Some (record { line = number; field = k })) field)

@@ -5,7 +5,7 @@ use Rattle.std.specs.Fmt.{decimal}
 use Rattle.std.specs.List.{flat_map}
 use Rattle.std.proofs.lemmas.Grind.{flat_map-append}
 use Rattle.std.proofs.lemmas.List.Elements.{All-append, All-replicate}
-use Rattle.trace_fields.specs.Fields.{fields_of}
+use Rattle.trace_fields.specs.Fields.{fields_in}
 use Rattle.trace_text.specs.Forms.{lines_of_text}
 use Rattle.trace_text.specs.Text.{Turns, turns_of, turns_fields, turns_text}
 use Rattle.trace_text.proofs.Runs.{turns, run, ends_before}
@@ -41,7 +41,7 @@ module _ {harts : ℕ} {last : Option ℕ} {order lines rest : List ℕ} (read :
   one_turn = ap turns_of (sym (append-nil (order ++ replicate count hart))) ∙ turns_behind [] tt
 
   -- a line is read
-  pub reads_turn : (first behind : List ℕ) → lines_of_text rest ≡ first ∷ lines_of_text behind → fields_of first ≡ decimal hart ∷ decimal count ∷ []
+  pub reads_turn : (first behind : List ℕ) → lines_of_text rest ≡ first ∷ lines_of_text behind → fields_in first ≡ decimal hart ∷ decimal count ∷ []
       → hart < harts → HasTurns harts (Some hart) (order ++ replicate count hart) lines behind
   reads_turn first behind cut fields below =
       let t = turns hart count in

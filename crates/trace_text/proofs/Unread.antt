@@ -4,7 +4,7 @@ use Rattle.std.specs.Prelude.{codes}
 use Rattle.std.specs.List.{flat_map, AllByRecursion}
 use Rattle.std.proofs.lemmas.Grind.{flat_map-append}
 use Rattle.rv_fields.specs.Play.{most_harts}
-use Rattle.trace_fields.specs.Fields.{fields_of}
+use Rattle.trace_fields.specs.Fields.{fields_in}
 use Rattle.trace_text.specs.Forms.{lines_of_text, fault_from, wrong_in}
 use Rattle.trace_text.specs.Lines.{Line}
 use Rattle.trace_text.specs.Orders.{number_in}
@@ -21,21 +21,21 @@ pub reads_none : (u : Unread) → HasRead [] u u
 reads_none u = record { harts = refl; are = tt; number = omega arith; text_is = refl; fault = refl }
 
 -- the text of fields that a newline ends, and what is behind
-pub ended_text : (fields : List (List ℕ)) (rest first behind : List ℕ) → lines_of_text rest ≡ first ∷ lines_of_text behind → fields_of first ≡ fields
+pub ended_text : (fields : List (List ℕ)) (rest first behind : List ℕ) → lines_of_text rest ≡ first ∷ lines_of_text behind → fields_in first ≡ fields
     → rest ≡ (joined_by space_byte fields ++ newline) ++ behind
 ended_text fields rest first behind cut are =
     cut_text rest first behind cut ∙ ap (λ (f : List ℕ). f ++ 0x0a ∷ behind) (fields_text first fields are) ∙ sym (append_assoc (joined_by space_byte fields) newline behind)
 
 -- a line is read
 pub reads_one : (harts number : ℕ) (l : Line) (rest first behind : List ℕ) → harts ≤ most_harts
-    → lines_of_text rest ≡ first ∷ lines_of_text behind → fields_of first ≡ line_fields l → IsLine harts l
+    → lines_of_text rest ≡ first ∷ lines_of_text behind → fields_in first ≡ line_fields l → IsLine harts l
     → HasRead (l ∷ []) (record { harts = harts; number = number; text = rest }) (record { harts = harts; number = number + 1; text = behind })
 reads_one harts number l rest first behind few cut fields is = record {
   harts = refl;
   are = (is, tt);
   number = refl;
   text_is = ended_text (line_fields l) rest first behind cut fields ∙ ap (λ (t : List ℕ). t ++ behind) (sym (append-nil (line_text l)));
-  fault = goes_on trace_form (Some harts) number rest first behind _ refl cut (right_line harts few l (fields_of first) fields is);
+  fault = goes_on trace_form (Some harts) number rest first behind _ refl cut (right_line harts few l (fields_in first) fields is);
 }
 
 module _ {xs ys : List Line} {a b c : Unread} where
@@ -58,8 +58,8 @@ less_left {l} {a} {b} read =
 
 -- the first line is read
 pub begins : (harts : ℕ) (bytes first behind : List ℕ) → lines_of_text bytes ≡ first ∷ lines_of_text behind
-    → wrong_in trace_form None (fields_of first) ≡ None → harts ≡ number_in (fields_of first) 2
-    → fields_of first ≡ header_fields (codes "trace") harts → 1 ≤ harts → harts ≤ most_harts
+    → wrong_in trace_form None (fields_in first) ≡ None → harts ≡ number_in (fields_in first) 2
+    → fields_in first ≡ header_fields (codes "trace") harts → 1 ≤ harts → harts ≤ most_harts
     → Begins bytes (record { harts = harts; number = 2; text = behind })
 begins harts bytes first behind cut right told fields some most = record {
   some = some;

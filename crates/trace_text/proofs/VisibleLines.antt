@@ -12,8 +12,8 @@ use Rattle.trace_fields.specs.Text.{space_byte, joined_by}
 use Rattle.trace_text.specs.Text.{newline, header_fields, header_text, header_body}
 use Rattle.trace_fields.specs.Numbers.{decimal_below}
 use Rattle.trace_text.specs.Forms.{lines_of_text}
-use Rattle.trace_fields.specs.Fields.{fields_of, first_wrong, is_decimal}
-use Rattle.trace_text.specs.Orders.{header_tests, number_in}
+use Rattle.trace_fields.specs.Fields.{fields_in, first_wrong, is_decimal}
+use Rattle.trace_text.specs.Orders.{first_line_tests, number_in}
 use Rattle.trace_fields.proofs.Joins.{Lacks, lacks, all_weaken, joined_all, parts_again}
 use Rattle.trace_fields.proofs.WordBytes.{IsVisible}
 use Rattle.trace_fields.proofs.Backs.{value_told}
@@ -25,7 +25,7 @@ pub visible_lacks : (byte : ℕ) → byte ≤ 0x20 → (text : List ℕ) → IsV
 visible_lacks byte low text visible = lacks (λ b. 0x20 < b) byte (λ b above same. omega arith) text visible
 
 -- visible fields that spaces part are cut at the spaces, and have no newline
-pub cut_fields : (fields : List (List ℕ)) → 1 ≤ length fields → AllByRecursion IsVisible fields → fields_of (joined_by space_byte fields) ≡ fields
+pub cut_fields : (fields : List (List ℕ)) → 1 ≤ length fields → AllByRecursion IsVisible fields → fields_in (joined_by space_byte fields) ≡ fields
 cut_fields fields some visible =
     parts_again space_byte fields some (all_weaken IsVisible (Lacks space_byte) (visible_lacks space_byte (omega arith)) fields visible)
 
@@ -43,23 +43,23 @@ module _ (kind : List ℕ) (visible : IsVisible kind) (harts : ℕ) (most : hart
   header_visible : AllByRecursion IsVisible (header_fields kind harts)
   header_visible = (visible, (omega arith, (decimal_visible harts (omega arith), tt)))
 
-  fields_of_header : fields_of (header_body kind harts) ≡ header_fields kind harts
+  fields_of_header : fields_in (header_body kind harts) ≡ header_fields kind harts
   fields_of_header = cut_fields (header_fields kind harts) (omega arith) header_visible
 
   harts_again : (bound : ℕ) → harts < bound → bound ≤ 2 ^ 64 → decimal_below bound (decimal harts) ≡ Some harts
   harts_again bound below fits = hart_again bound fits harts below
 
-  pub header_number : number_in (fields_of (header_body kind harts)) 2 ≡ harts
+  pub header_number : number_in (fields_in (header_body kind harts)) 2 ≡ harts
   header_number =
       ap (λ (fs : List (List ℕ)). number_in fs 2) fields_of_header
       ∙ value_told decimal 10 17 (decimal harts) harts (harts_again 17 (omega arith) (omega arith))
 
-  pub header_right : 1 ≤ harts → first_wrong 1 (header_tests kind) (fields_of (header_body kind harts)) ≡ None
+  pub header_right : 1 ≤ harts → first_wrong 1 (first_line_tests kind) (fields_in (header_body kind harts)) ≡ None
   header_right some =
       let test : is_decimal 1 (most_harts + 1) (decimal harts) ≡ true =
       ap (λ o. option_map_or (λ n. not (nat_lt n 1)) o false) (harts_again (most_harts + 1) (omega arith) (omega arith))
       ∙ not_from_false (nat_lt harts 1) (le-ltb harts 1 some) in
-      ap (first_wrong 1 (header_tests kind)) fields_of_header ∙ rw (word_passes kind, test) refl
+      ap (first_wrong 1 (first_line_tests kind)) fields_of_header ∙ rw (word_passes kind, test) refl
 
   pub header_cut : (rest : List ℕ) → lines_of_text (header_text kind harts ++ rest) ≡ header_body kind harts ∷ lines_of_text rest
   header_cut rest = cut_line (header_body kind harts) rest (no_newline (header_fields kind harts) header_visible)

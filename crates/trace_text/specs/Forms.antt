@@ -3,7 +3,7 @@
 use Rattle.std.specs.Prelude.{ℕ, ◌+◌, ◌&&◌, ◌==◌, nat_lt, List, [], ◌∷◌, length, Option, Some, None, if◌then◌else◌}
 use Rattle.std.specs.Option.{unwrap_or}
 use Rattle.std.specs.List.{slice_split}
-use Rattle.trace_fields.specs.Fields.{Place, Test, fields_of, first_wrong}
+use Rattle.trace_fields.specs.Fields.{FieldTest, Place, fields_in, first_wrong}
 
 -- The lines of a text, and last what stands behind the last newline.
 abbrev pub lines_of_text : List ℕ → List (List ℕ)
@@ -12,7 +12,7 @@ lines_of_text text = slice_split (λ b. b == 0x0a) text
 -- A form of texts, for what is known behind some of the lines.
 pub record Form (Known : Type 0) : Type 0 where
   -- the tests of the next line's fields, which may depend on these fields
-  pub tests : Known → List (List ℕ) → List Test
+  pub tests : Known → List (List ℕ) → List FieldTest
   -- what is known behind the next line, where its fields pass
   pub after : Known → List (List ℕ) → Known
 
@@ -33,10 +33,10 @@ first_fault line None behind = behind
 abbrev pub fault_from : {Known : Type 0} → Form Known → Known → ℕ → List (List ℕ) → Option Place
 fault_from form known line [] = None
 fault_from form known line (last ∷ []) =
-    if length last == 0 && nat_lt 1 line then None else Some (record { line = line; field = wrong_at_end form known (fields_of last) })
+    if length last == 0 && nat_lt 1 line then None else Some (record { line = line; field = wrong_at_end form known (fields_in last) })
 fault_from form known line (first ∷ next ∷ lines) =
-    first_fault line (wrong_in form known (fields_of first))
-    (fault_from form (form.after known (fields_of first)) (line + 1) (next ∷ lines))
+    first_fault line (wrong_in form known (fields_in first))
+    (fault_from form (form.after known (fields_in first)) (line + 1) (next ∷ lines))
 
 abbrev pub fault_of : {Known : Type 0} → Form Known → Known → List ℕ → Option Place
 fault_of form known text = fault_from form known 1 (lines_of_text text)

@@ -9,14 +9,14 @@ use Rattle.trace_fields.specs.Fields.{Place}
 use Rattle.trace_fields.specs.Taking.{IsFault}
 use Rattle.trace_text.specs.Forms.{fault_from, lines_of_text}
 use Rattle.trace_text.specs.Lines.{Line}
-use Rattle.trace_text.specs.Orders.{order_form, turns}
+use Rattle.trace_text.specs.Orders.{order_form, turns_so_far}
 use Rattle.trace_text.specs.Text.{header_text, line_text}
 use Rattle.trace_text.specs.Traces.{IsLine, trace_fault, trace_form}
 use Rattle.trace_text.specs.Views.{line_seen}
 
 -- the fault of the lines behind the first, where the first tells so many harts
 abbrev pub turns_fault : ℕ → List ℕ → Option Place
-turns_fault harts lines = fault_from order_form (turns harts None 0) 2 (lines_of_text lines)
+turns_fault harts lines = fault_from order_form (turns_so_far harts None 0) 2 (lines_of_text lines)
 
 -- What of a trace of so many harts isn't read yet: the number of its first line, and the text from that line on.
 pub record Unread : Type 0 where

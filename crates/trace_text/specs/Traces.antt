@@ -6,12 +6,12 @@ use Rattle.rv_fields.specs.Effect.{Effect}
 use Rattle.rv_fields.specs.Play.{most_harts}
 use Rattle.trace_fields.specs.Bounds.{count_bound, hex_bound, register_bound, space_bound, most_entries, word_bound}
 use Rattle.trace_text.specs.Lines.{Line, hart_of, request, picked, weighed, fixed, given, settled, touched, made, found, ending, done, refused}
-use Rattle.trace_fields.specs.Numbers.{decimal_below, word_of}
-use Rattle.trace_fields.specs.Fields.{Test, Place, is_word, tells}
+use Rattle.trace_fields.specs.Numbers.{decimal_below, word_reading}
+use Rattle.trace_fields.specs.Fields.{FieldTest, Place, is_word, tells}
 use Rattle.trace_text.specs.Forms.{Form, fault_of}
-use Rattle.trace_text.specs.Orders.{header_tests, number_in}
-use Rattle.trace_fields.specs.Readings.{preambles, kind_of, cause_of, name_of, count_of, hex_of, register_of, space_of, number_of, path_of, bytes_of, optional, write_of, access_of, trail_of, trap_of}
-use Rattle.trace_fields.specs.Ranges.{IsAnyOf, IsName, IsWrite, IsAccess, IsEntry, IsTrap, IsPath, AreBytes}
+use Rattle.trace_text.specs.Orders.{first_line_tests, number_in}
+use Rattle.trace_fields.specs.Readings.{preambles, kind_reading, cause_reading, name_reading, count_reading, hex_reading, register_reading, space_reading, number_reading, path_reading, bytes_reading, optional, write_reading, access_reading, trail_reading, trap_reading}
+use Rattle.trace_fields.specs.Ranges.{IsAnyOf, IsName, IsWrite, IsAccess, IsEntry, IsTrap, IsPath, AreFixedBytes}
 
 -- The ranges that a trace keeps.
 
@@ -34,7 +34,7 @@ KeepsRanges (weighed hart tree path weight) = IsName tree × IsPath path × (wei
 KeepsRanges (fixed hart register value) = (1 ≤ register) × (register < register_bound) × (value < hex_bound)
 KeepsRanges (given hart object page frame) = IsName object × (page < count_bound) × (frame < count_bound)
 KeepsRanges (settled hart space entry) = (space < space_bound) × IsEntry entry
-KeepsRanges (touched hart at bytes) = (at < hex_bound) × AreBytes bytes
+KeepsRanges (touched hart at bytes) = (at < hex_bound) × AreFixedBytes bytes
 KeepsRanges (made e) = IsStep e
 KeepsRanges (found e) = IsStep e
 KeepsRanges (ending e) = IsStep e
@@ -57,41 +57,41 @@ pub record IsTrace (harts : ℕ) (lines : List Line) : Type 0 where
 -- a kind of line: its first field, and the tests of the fields behind the hart
 pub record LineForm : Type 0 where
   pub key : List ℕ
-  pub tests : List Test
+  pub tests : List FieldTest
 
 abbrev pub request_form : LineForm
-request_form = record { key = codes "q"; tests = tells count_of ∷ tells kind_of ∷ [] }
+request_form = record { key = codes "q"; tests = tells count_reading ∷ tells kind_reading ∷ [] }
 
 abbrev pub picked_form : LineForm
-picked_form = record { key = codes "p"; tests = tells name_of ∷ tells name_of ∷ tells hex_of ∷ [] }
+picked_form = record { key = codes "p"; tests = tells name_reading ∷ tells name_reading ∷ tells hex_reading ∷ [] }
 
 abbrev pub weighed_form : LineForm
-weighed_form = record { key = codes "w"; tests = tells name_of ∷ tells path_of ∷ tells count_of ∷ [] }
+weighed_form = record { key = codes "w"; tests = tells name_reading ∷ tells path_reading ∷ tells count_reading ∷ [] }
 
 abbrev pub fixed_form : LineForm
-fixed_form = record { key = codes "x"; tests = tells register_of ∷ tells hex_of ∷ [] }
+fixed_form = record { key = codes "x"; tests = tells register_reading ∷ tells hex_reading ∷ [] }
 
 abbrev pub given_form : LineForm
-given_form = record { key = codes "g"; tests = tells name_of ∷ tells count_of ∷ tells count_of ∷ [] }
+given_form = record { key = codes "g"; tests = tells name_reading ∷ tells count_reading ∷ tells count_reading ∷ [] }
 
 abbrev pub settled_form : LineForm
-settled_form = record { key = codes "m"; tests = tells space_of ∷ tells hex_of ∷ tells hex_of ∷ [] }
+settled_form = record { key = codes "m"; tests = tells space_reading ∷ tells hex_reading ∷ tells hex_reading ∷ [] }
 
 abbrev pub touched_form : LineForm
-touched_form = record { key = codes "y"; tests = tells hex_of ∷ tells bytes_of ∷ [] }
+touched_form = record { key = codes "y"; tests = tells hex_reading ∷ tells bytes_reading ∷ [] }
 
-abbrev pub step_tests : List Test
-step_tests = tells hex_of ∷ tells hex_of ∷ tells word_of ∷ tells (optional write_of) ∷ tells (optional access_of) ∷ tells trail_of ∷ tells (optional trap_of) ∷ []
+abbrev pub step_tests : List FieldTest
+step_tests = tells hex_reading ∷ tells hex_reading ∷ tells word_reading ∷ tells (optional write_reading) ∷ tells (optional access_reading) ∷ tells trail_reading ∷ tells (optional trap_reading) ∷ []
 
 -- the step lines differ by their first field alone
 abbrev pub step_form : List ℕ → LineForm
 step_form key = record { key = key; tests = step_tests }
 
 abbrev pub done_form : LineForm
-done_form = record { key = codes "d"; tests = tells count_of ∷ [] }
+done_form = record { key = codes "d"; tests = tells count_reading ∷ [] }
 
 abbrev pub refused_form : LineForm
-refused_form = record { key = codes "r"; tests = tells count_of ∷ tells cause_of ∷ tells (number_of preambles) ∷ [] }
+refused_form = record { key = codes "r"; tests = tells count_reading ∷ tells cause_reading ∷ tells (number_reading preambles) ∷ [] }
 
 abbrev pub line_forms : List LineForm
 line_forms =
@@ -99,18 +99,18 @@ line_forms =
     ∷ step_form (codes "e") ∷ done_form ∷ refused_form ∷ []
 
 -- the tests of the fields behind the first, where these are the tests of those behind the hart
-abbrev pub tests_behind : ℕ → List Test → List Test
+abbrev pub tests_behind : ℕ → List FieldTest → List FieldTest
 tests_behind harts tests = tells (decimal_below harts) ∷ tests
 
 -- the tests of a line with this first field; where no form has it, it is wrong
-abbrev pub tests_for : ℕ → List ℕ → List LineForm → List Test
+abbrev pub tests_for : ℕ → List ℕ → List LineForm → List FieldTest
 tests_for harts key [] = (λ field. false) ∷ []
 tests_for harts key (form ∷ forms) =
     if bytes_eq form.key key then is_word key ∷ tests_behind harts form.tests else tests_for harts key forms
 
 -- What is known behind some lines: the number of harts, behind the first.
-abbrev pub trace_tests : Option ℕ → List (List ℕ) → List Test
-trace_tests None fields = header_tests (codes "trace")
+abbrev pub trace_tests : Option ℕ → List (List ℕ) → List FieldTest
+trace_tests None fields = first_line_tests (codes "trace")
 trace_tests (Some harts) fields = tests_for harts (get_or fields 0 []) line_forms
 
 abbrev pub trace_after : Option ℕ → List (List ℕ) → Option ℕ

@@ -6,8 +6,8 @@ use Rattle.trace_text.specs.declared.line.Line as code
 use Rattle.trace_text.specs.declared.line.Line.TheVariants.{Q, P, W, X, G, M, Y, S, F, E, D, R}
 use Rattle.trace_text.specs.Lines.{Line, request, picked, weighed, fixed, given, settled, touched, made, found, ending, done, refused}
 
-abbrev pub effect_seen : StepLine → Effect
-effect_seen s = record {
+abbrev pub step_seen : StepLine → Effect
+step_seen s = record {
   hart = s.hart;
   pc = s.pc;
   pa = Some s.pa;
@@ -26,9 +26,9 @@ line_seen (X hart register value) = fixed hart register value
 line_seen (G hart object page frame) = given hart object page frame
 line_seen (M hart space at pte) = settled hart space (record { at = at; pte = pte })
 line_seen (Y hart at bytes) = touched hart at bytes.items
-line_seen (S step) = made (effect_seen step)
-line_seen (F step) = found (effect_seen step)
-line_seen (E step) = ending (effect_seen step)
+line_seen (S step) = made (step_seen step)
+line_seen (F step) = found (step_seen step)
+line_seen (E step) = ending (step_seen step)
 line_seen (D hart k) = done hart k
 line_seen (R hart k cause preamble) = refused hart k cause preamble
 

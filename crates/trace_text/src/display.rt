@@ -3,7 +3,7 @@ ghost use Rattle.std.specs.Prelude.{◌≡◌, Some};
 ghost use Rattle.trace_fields.specs.Text.{joined_by, space_byte};
 ghost use Rattle.trace_text.specs.Text.{step_fields, line_body};
 ghost use Rattle.trace_text.specs.Lines.{hart_of};
-ghost use Rattle.trace_text.specs.Views.{effect_seen, line_seen};
+ghost use Rattle.trace_text.specs.Views.{line_seen, step_seen};
 
 use crate::line::{Line, StepLine};
 use std::fmt;
@@ -11,7 +11,7 @@ use trace_fields::{BytesText, OrNone, PathText, Word, Written};
 
 /// Shows the fields of a step line, from the hart on, parted by single spaces.
 impl fmt::Display for StepLine {
-    ghost output = { λ step. Some (joined_by space_byte (step_fields (effect_seen step))) };
+    ghost output = { λ step. Some (joined_by space_byte (step_fields (step_seen step))) };
 
     fn fmt<W: fmt::Write>(&self, f: &mut fmt::Formatter<W>) -> fmt::Result {
         let StepLine {

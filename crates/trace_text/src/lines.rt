@@ -3,7 +3,7 @@ ghost use Rattle.std.specs.Prelude.{◌≡◌, ◌<◌, MatchResult};
 ghost use Rattle.trace_fields.specs.Taking.{left, IsWrongBy};
 ghost use Rattle.trace_text.specs.Text.{step_fields};
 ghost use Rattle.trace_text.specs.Traces.{request_form, picked_form, weighed_form, fixed_form, given_form, settled_form, touched_form, step_tests, done_form, refused_form, tests_behind, IsStep};
-ghost use Rattle.trace_text.specs.Views.{effect_seen};
+ghost use Rattle.trace_text.specs.Views.{step_seen};
 ghost use Rattle.trace_text.specs.LineReading.{ReadsLine};
 
 use crate::line::{Line, StepLine};
@@ -122,7 +122,7 @@ pub(crate) fn touched(alloc: Global, fields: &mut Fields, harts: u8) -> Result<L
 pub(crate) fn step(fields: &mut Fields, harts: u8) -> Result<StepLine, LineFault>
     requires { (left fields.old).number ≡ 2 }
     ensures { MatchResult result
-        (λ step. ((left fields.old).fields ≡ step_fields (effect_seen step)) × (step.hart < harts) × IsStep (effect_seen step))
+        (λ step. ((left fields.old).fields ≡ step_fields (step_seen step)) × (step.hart < harts) × IsStep (step_seen step))
         (λ fault. IsWrongBy (tests_behind harts step_tests) (left fields.old) fault) }
 {
     let hart = fields.hart(harts)?;

@@ -2,8 +2,8 @@ ghost use Rattle.std.specs.Prelude.{◌≡◌, ◌≢◌, ℕ, ◌<◌, ◌≤�
 ghost use Rattle.std.specs.List.{flat_map};
 ghost use Rattle.std.specs.Fmt.{decimal};
 ghost use Rattle.trace_text.specs.Text.{order_text, turns_of, turns_text};
-ghost use Rattle.trace_fields.specs.Fields.{fields_of, first_wrong};
-ghost use Rattle.trace_text.specs.Orders.{IsOrder, turns, order_fault, order_tests, number_in, most_steps};
+ghost use Rattle.trace_fields.specs.Fields.{fields_in, first_wrong};
+ghost use Rattle.trace_text.specs.Orders.{IsOrder, turns_so_far, order_fault, order_tests, number_in, most_steps};
 ghost use Rattle.trace_text.specs.Reading.{turns_fault};
 ghost use Rattle.trace_fields.specs.Taking.{IsFault, IsWrongBy, whole_line};
 
@@ -87,8 +87,8 @@ fn turns_of(
     steps: usize,
 ) -> Result<Turns, LineFault>
     requires { steps ≤ most_steps }
-    ensures { let fields = fields_of text.now in
-        let tests = order_tests (turns harts last steps) fields in
+    ensures { let fields = fields_in text.now in
+        let tests = order_tests (turns_so_far harts last steps) fields in
         MatchResult result
         (λ told. (first_wrong 1 tests fields ≡ None) × (told.hart ≡ number_in fields 0) × (told.count ≡ number_in fields 1)
         × (fields ≡ decimal told.hart ∷ decimal told.count ∷ []) × (told.hart < harts) × (1 ≤ told.count) × (told.count + steps ≤ most_steps)

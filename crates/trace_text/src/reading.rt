@@ -2,9 +2,9 @@
 ghost use Rattle.std.specs.Prelude.{◌≡◌, ◌≤◌, ◌+◌, None, MatchResult};
 ghost use Rattle.std.specs.Option.{unwrap_or};
 ghost use Rattle.rv_fields.specs.Play.{most_harts};
-ghost use Rattle.trace_fields.specs.Fields.{fields_of, first_wrong};
+ghost use Rattle.trace_fields.specs.Fields.{fields_in, first_wrong};
 ghost use Rattle.trace_text.specs.Text.{header_fields};
-ghost use Rattle.trace_text.specs.Orders.{header_tests, number_in};
+ghost use Rattle.trace_text.specs.Orders.{first_line_tests, number_in};
 ghost use Rattle.trace_fields.specs.Taking.{IsWrongBy, whole_line};
 
 use rv_fields::MOST_HARTS;
@@ -15,11 +15,11 @@ pub(crate) const HEADER_FIELDS: u32 = 3;
 
 /// The number of harts that the first line of a file of this kind tells.
 pub(crate) fn header(text: &[u8], kind: &str) -> Result<u8, LineFault>
-    ensures { let fields = fields_of text.now in
+    ensures { let fields = fields_in text.now in
         MatchResult result
-        (λ harts. (first_wrong 1 (header_tests kind.now) fields ≡ None) × (harts ≡ number_in fields 2)
+        (λ harts. (first_wrong 1 (first_line_tests kind.now) fields ≡ None) × (harts ≡ number_in fields 2)
         × (fields ≡ header_fields kind.now harts) × (1 ≤ harts) × (harts ≤ most_harts))
-        (λ fault. IsWrongBy (header_tests kind.now) (whole_line 1 fields) fault) }
+        (λ fault. IsWrongBy (first_line_tests kind.now) (whole_line 1 fields) fault) }
 {
     let mut fields = Fields::of(1, text);
     fields.keyword(kind)?;

@@ -1,6 +1,6 @@
 ghost use Rattle.std.specs.Prelude.{◌≡◌, ℕ, ◌<◌, ◌≤◌, ◌+◌, ◌∷◌, [], length, List, Some, None, IfOk, IfErr, MatchResult};
 ghost use Rattle.trace_text.specs.Text.{trace_text, line_fields};
-ghost use Rattle.trace_fields.specs.Fields.{fields_of};
+ghost use Rattle.trace_fields.specs.Fields.{fields_in};
 ghost use Rattle.trace_text.specs.Forms.{lines_of_text};
 ghost use Rattle.trace_text.specs.Lines as model;
 ghost use Rattle.trace_text.specs.Traces.{IsTrace, IsLine, trace_fault, trace_tests};
@@ -124,7 +124,7 @@ fn field_count(line: &Line) -> u32
 
 /// The line of this number, which has this text.
 fn read_line(alloc: Global, number: u64, harts: u8, text: &[u8]) -> Result<Line, LineFault>
-    ensures { let fields = fields_of text.now in
+    ensures { let fields = fields_in text.now in
         MatchResult result
         (λ line. (fields ≡ line_fields (line_seen line)) × IsLine harts (line_seen line))
         (λ fault. IsWrongBy (trace_tests (Some harts) fields) (whole_line number fields) fault) }

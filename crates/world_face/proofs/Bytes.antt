@@ -8,7 +8,7 @@ use Rattle.std.proofs.lemmas.Bool.{and_parts}
 use Rattle.rv_fields.specs.Hart.{updated}
 use Rattle.rv_fields.specs.Memory.{number_of}
 use Rattle.trace_fields.proofs.Joins.{all_weaken}
-use Rattle.world_face.specs.Shards.{joined, present, span_of, spans, with_run, with_runs}
+use Rattle.world_face.specs.Shards.{joined, present, run_span, spans, with_run, with_runs}
 use Rattle.world_face.specs.Told.{Run}
 
 -- ---- the addresses of runs
@@ -68,7 +68,7 @@ bytes_moved : (f g : ℕ → Option ℕ) (at : ℕ) (bs : List ℕ) → EachOf (
 bytes_moved f g at [] same stand = tt
 bytes_moved f g at (b ∷ bs) same stand = (same.0 ∙ stand.0, bytes_moved f g (at + 1) bs same.1 stand.1)
 
-pub runs_moved : (f g : ℕ → Option ℕ) (rs : List Run) → EachSpan (λ a. g a ≡ f a) (map span_of rs) → RunsStand f rs → RunsStand g rs
+pub runs_moved : (f g : ℕ → Option ℕ) (rs : List Run) → EachSpan (λ a. g a ≡ f a) (map run_span rs) → RunsStand f rs → RunsStand g rs
 runs_moved f g [] same stand = tt
 runs_moved f g (r ∷ rs) same stand = (bytes_moved f g r.at r.bytes same.0 stand.0, runs_moved f g rs same.1 stand.1)
 

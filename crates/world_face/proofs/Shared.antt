@@ -10,7 +10,7 @@ use Rattle.rv_fields.specs.declared.access.AccessKind.{AccessKind}
 use Rattle.rv_fields.specs.declared.access.Accessed.{Accessed}
 use Rattle.boot_words.specs.Layout.{data_start, shard_of}
 use Rattle.trace_fields.proofs.Joins.{all_weaken}
-use Rattle.world_face.specs.Shards.{ShardState, after_told, present, reads, span_of, spans, untouched_in, with_runs}
+use Rattle.world_face.specs.Shards.{ShardState, after_told, present, reads, run_span, spans, untouched_in, with_runs}
 use Rattle.world_face.specs.Told.{Run}
 use Rattle.world_face.proofs.Bytes.{EachSpan, Lies, RunsStand, Untouched, each_span, each_untouched, lies_runs, runs_moved, spelt}
 
@@ -42,7 +42,7 @@ pub record Within (a : Accessed) : Type 0 where
 
 -- the runs that are fixed stand already
 pub stand_now : (first now : Seen) (shards : ℕ → ShardState) (a : Accessed) (told : List Run) → Shared first now shards → Within a
-    → map span_of told ≡ cond (reads a.kind) (spans (untouched_in (shards (shard_of a.pa)) a.pa a.size)) [] → RunsStand first.byte told → RunsStand now.byte told
+    → map run_span told ≡ cond (reads a.kind) (spans (untouched_in (shards (shard_of a.pa)) a.pa a.size)) [] → RunsStand first.byte told → RunsStand now.byte told
 stand_now first now shards a told over lies spans_are stand =
     runs_moved first.byte now.byte told (subst (EachSpan (λ b. now.byte b ≡ first.byte b)) (sym spans_are) (of (reads a.kind))) stand
   where

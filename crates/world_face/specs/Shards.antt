@@ -55,13 +55,13 @@ reads Amo = true
 reads Sc = false
 reads Store = false
 
-abbrev pub span_of : Run → ℕ × ℕ
-span_of r = (r.at, length r.bytes)
+abbrev pub run_span : Run → ℕ × ℕ
+run_span r = (r.at, length r.bytes)
 
 abbrev pub AccessRight : ShardState → List Run → Option Accessed → Type 0
 AccessRight shard told None = told ≡ []
 AccessRight shard told (Some a) =
-    (map span_of told ≡ (if reads a.kind then spans (untouched_in shard a.pa a.size) else []))
+    (map run_span told ≡ (if reads a.kind then spans (untouched_in shard a.pa a.size) else []))
     × (a.read ≡ (if reads a.kind then present (with_runs shard.bytes told) a.pa a.size else None))
 
 abbrev pub fits_byte : Option ℕ → ℕ → Bool

@@ -23,8 +23,8 @@ abbrev pub settled_lines : ℕ → ℕ → List Entry → List Line
 settled_lines hart space es = map (settled hart space) es
 
 -- the way needs no more tables than are left
-abbrev pub has_room : TableSpace → List Entry → Bool
-has_room space es = nat_le (tables_in (unfixed space es)) space.left
+abbrev pub has_tables_left : TableSpace → List Entry → Bool
+has_tables_left space es = nat_le (tables_in (unfixed space es)) space.left
 
 abbrev pub FrameBelow : ℕ → Option ℕ → Type 0
 FrameBelow frames None = Unit {0}
@@ -32,10 +32,10 @@ FrameBelow frames (Some frame) = frame < frames
 
 abbrev pub SpaceRight : Work → TableSpace → ℕ → Option Short → Option Settle → List Line → Type 0
 SpaceRight work space hart short None told = told ≡ []
-SpaceRight work space hart (Some Tables) (Some s) told = IsTrue (not (has_room space (way_settled work space s))) × (told ≡ [])
+SpaceRight work space hart (Some Tables) (Some s) told = IsTrue (not (has_tables_left space (way_settled work space s))) × (told ≡ [])
 SpaceRight work space hart (Some Frames) (Some s) told = told ≡ []
 SpaceRight work space hart None (Some s) told =
-    IsTrue (has_room space (way_settled work space s))
+    IsTrue (has_tables_left space (way_settled work space s))
     × (s.path ≡ way_settled work space s)
     × (told ≡ settled_lines hart space.number (unfixed space (way_settled work space s)))
     × FrameBelow work.frames s.frame

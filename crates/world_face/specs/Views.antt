@@ -19,5 +19,5 @@ abbrev pub all_placed : List placed.Placed → List Placed
 all_placed events = map placed_seen events
 
 -- room for so many lines
-abbrev pub HasRoom : ℕ → code.Event → Type 0
-HasRoom count event = vec_len event.lines + count ≤ vec_capacity event.lines
+abbrev pub HasRoomForLines : ℕ → code.Event → Type 0
+HasRoomForLines count event = vec_len event.lines + count ≤ vec_capacity event.lines

@@ -21,13 +21,13 @@ pub struct Event {
 
 impl Event {
     ghost use Rattle.world_face.specs.Events.{no_parts, nothing_asked};
-    ghost use Rattle.world_face.specs.Views.{HasRoom, event_seen};
+    ghost use Rattle.world_face.specs.Views.{HasRoomForLines, event_seen};
     ghost use Rattle.trace_text.specs.Views.{line_seen};
 
     /// An event of the hart that holds no part and tells nothing yet. It has room for so many lines.
     pub fn new(alloc: Global, hart: u8, lines: usize) -> Result<Event, NoMemory>
         ensures event { IfOk result (λ e. event_seen e ≡ record { hart = hart; parts = no_parts; asked = nothing_asked; lines = [] }) }
-        ensures room { IfOk result (HasRoom lines) }
+        ensures room { IfOk result (HasRoomForLines lines) }
     {
         Ok(Event {
             hart,
@@ -39,9 +39,9 @@ impl Event {
 
     /// Adds a line, for which there is room.
     pub fn add(&mut self, line: Line)
-        requires { HasRoom 1 self.old }
+        requires { HasRoomForLines 1 self.old }
         ensures event { event_seen self.new ≡ record (event_seen self.old) { lines = (event_seen self.old).lines ++ line_seen line ∷ [] } }
-        ensures room { (count : ℕ) → HasRoom (count + 1) self.old → HasRoom count self.new }
+        ensures room { (count : ℕ) → HasRoomForLines (count + 1) self.old → HasRoomForLines count self.new }
     {
         self.lines.push(line).unwrap();
     }

@@ -1,8 +1,8 @@
 //! What each status leaves: calls of the store that fail, files that aren't there, words that are not a command.
 
 use super::{
-    JOB, LINE, ORDER, TRACE, TREES, WORDS, assert_ends, assert_holds, assert_made, assert_usage, holding,
-    owned,
+    JOB, LINE, ORDER, TRACE, TREES, WORDS, assert_ends, assert_holds, assert_made, assert_usage,
+    holding, owned,
 };
 use crate::plain_top;
 use std::alloc::Global;

@@ -1,6 +1,6 @@
 use Rattle.std.proofs.Common.{[], ◌∙◌, sym, ap}
 use Rattle.std.proofs.lemmas.Result.{err_from_is_err_and}
-use Rattle.elf_file.specs.Faults.{first_fault, apart_tests}
+use Rattle.elf_file.specs.Faults.{first_failed, apart_tests}
 use Rattle.elf_file.proofs.Judging.{fault_of_header, fault_of_segment, fault_of_pair, no_fault}
 use Rattle.elf_file.proofs.reading.read_headers.Goals as goal
 
@@ -20,9 +20,9 @@ returns-in_err-check_apart-clause-fault c =
     let headers = c.deref.ensures.value ∙ c.in_ok-headers.ensures.loads in
     rw (p.1, p.2) (λ some.
     fault_of_pair c.args.bytes.now (sym c.in_ok-check_header.ensures.fault) c.in_err-check_apart.field-0.0 c.in_ok-headers.ensures.fault
-    (ap (λ hs. first_fault (apart_tests [] hs)) (sym headers) ∙ c.in_err-check_apart.ensures some))
+    (ap (λ hs. first_failed (apart_tests [] hs)) (sym headers) ∙ c.in_err-check_apart.ensures some))
 
 pub returns-clause-fault : goal.returns-clause-fault
 returns-clause-fault c =
     let headers = c.deref.ensures.value ∙ c.in_ok-headers.ensures.loads in
-    no_fault c.args.bytes.now (sym c.in_ok-check_header.ensures.fault) c.in_ok-headers.ensures.fault (ap (λ hs. first_fault (apart_tests [] hs)) (sym headers) ∙ c.in_ok-check_apart.ensures)
+    no_fault c.args.bytes.now (sym c.in_ok-check_header.ensures.fault) c.in_ok-headers.ensures.fault (ap (λ hs. first_failed (apart_tests [] hs)) (sym headers) ∙ c.in_ok-check_apart.ensures)

@@ -1,12 +1,12 @@
 use Rattle.std.proofs.Common.{◌≡◌, ◌++◌, ◌∙◌, ap}
-use Rattle.elf_file.specs.Writing.{Placed, program_header}
+use Rattle.elf_file.specs.Writing.{PlacedSegment, program_header}
 use Rattle.elf_file.specs.Placing.{view}
 use Rattle.elf_file.proofs.Appending.{Step, end_more, written_more, begins_appended, begins_further}
 use Rattle.elf_file.proofs.writing.append_program_headers.Goals as goal
 
 pub loop-segment-preserved : goal.loop-segment-preserved
 loop-segment-preserved c =
-    let p : Placed = view c.behind-placed.result in
+    let p : PlacedSegment = view c.behind-placed.result in
     let step : Step c.args.segments.now c.loop-segment.segment-index c.loop-segment.end p c.end-end.result = record {
       below = c.loop-segment-test.true;
       placed_there = (c.segment-item.result, c.segment-item.is, c.behind-placed.ensures);

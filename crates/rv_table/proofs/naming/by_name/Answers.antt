@@ -2,13 +2,13 @@ use Rattle.std.proofs.Common.{◌≡◌, ℕ, List, Option, Some, None, sym, ap,
 use Rattle.std.specs.Prelude.{option_map, find}
 use Rattle.rv_fields.specs.RowTable.{ins_called}
 use Rattle.rv_table.specs.declared.table.Entry.{Entry}
-use Rattle.rv_table.specs.Listing.{listed, has_name}
+use Rattle.rv_table.specs.Listing.{listed_entry, has_name}
 use Rattle.rv_table.proofs.OneTable.{IsLineOf, IsTable, first_is, ins_told, name_told}
 use Rattle.rv_table.proofs.naming.by_name.Goals as goal
 
 -- the first line that has the name is that of the instruction that has it
-line_called : (name : List ℕ) (table : List Entry) (line : Option Entry) → IsTable table → line ≡ find (λ e. has_name name (listed e)) table → IsLineOf line (ins_called name)
-line_called name table line is found = ap (option_map listed) found ∙ first_is (has_name name) table is
+line_called : (name : List ℕ) (table : List Entry) (line : Option Entry) → IsTable table → line ≡ find (λ e. has_name name (listed_entry e)) table → IsLineOf line (ins_called name)
+line_called name table line is found = ap (option_map listed_entry) found ∙ first_is (has_name name) table is
 
 pub returns-clause-value : goal.returns-clause-value
 returns-clause-value c =

@@ -8,7 +8,7 @@ use Rattle.region_plan.specs.declared.plan.HartPlan.{HartPlan}
 use Rattle.region_plan.specs.declared.request.Item.{Item}
 use Rattle.region_plan.specs.Request.{Items}
 use Rattle.region_plan.specs.Rules.{IsPlainHart, KeepsRules}
-use Rattle.region_plan.specs.Views.{hart_seen, harts_seen, items_seen, work_of, work_with}
+use Rattle.region_plan.specs.Views.{harts_seen, items_seen, planned_hart, work_of, work_with}
 use Rattle.region_plan.proofs.Harts.{seen_length}
 use Rattle.serial_world.proofs.Turning.{all_more}
 use Rattle.serial_world.proofs.tests.job_of.Goals as goal
@@ -17,21 +17,21 @@ abbrev all_seen : List (Vec Item Global) → List Items
 all_seen templates = map (λ (t : Vec Item Global). items_seen t.items) templates
 
 harts_more : (harts : List HartPlan) (templates : List Items) (hart : HartPlan) (template : Items) → length templates ≡ length harts
-    → harts_seen (harts ++ hart ∷ []) (templates ++ template ∷ []) ≡ harts_seen harts templates ++ hart_seen hart template ∷ []
+    → harts_seen (harts ++ hart ∷ []) (templates ++ template ∷ []) ≡ harts_seen harts templates ++ planned_hart hart template ∷ []
 harts_more [] [] hart template same = refl
 harts_more [] (t ∷ ts) hart template same = absurd cc
 harts_more (h ∷ hs) [] hart template same = absurd cc
-harts_more (h ∷ hs) (t ∷ ts) hart template same = ap (λ l. hart_seen h t ∷ l) (harts_more hs ts hart template cc)
+harts_more (h ∷ hs) (t ∷ ts) hart template same = ap (λ l. planned_hart h t ∷ l) (harts_more hs ts hart template cc)
 
 plain_more : (harts : List HartPlan) (templates : List (Vec Item Global)) (hart : HartPlan) (template : Vec Item Global) → length templates ≡ length harts
-    → AllByRecursion IsPlainHart (harts_seen harts (all_seen templates)) → IsPlainHart (hart_seen hart (items_seen template.items))
+    → AllByRecursion IsPlainHart (harts_seen harts (all_seen templates)) → IsPlainHart (planned_hart hart (items_seen template.items))
     → AllByRecursion IsPlainHart (harts_seen (harts ++ hart ∷ []) (all_seen (templates ++ template ∷ [])))
 plain_more harts templates hart template same plain here =
     let split : all_seen (templates ++ template ∷ []) ≡ all_seen templates ++ items_seen template.items ∷ [] = map-append (λ (t : Vec Item Global). items_seen t.items) templates (template ∷ []) in
     let many : length (all_seen templates) ≡ length harts = length-map templates (λ (t : Vec Item Global). items_seen t.items) ∙ same in
     let more = harts_more harts (all_seen templates) hart (items_seen template.items) many in
     subst (λ l. AllByRecursion IsPlainHart (harts_seen (harts ++ hart ∷ []) l)) (sym split)
-    (subst (AllByRecursion IsPlainHart) (sym more) (all_more IsPlainHart (harts_seen harts (all_seen templates)) (hart_seen hart (items_seen template.items)) plain here))
+    (subst (AllByRecursion IsPlainHart) (sym more) (all_more IsPlainHart (harts_seen harts (all_seen templates)) (planned_hart hart (items_seen template.items)) plain here))
 
 pub loop-count-preserved : goal.loop-count-preserved
 loop-count-preserved c =

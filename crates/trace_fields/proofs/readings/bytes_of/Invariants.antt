@@ -1,5 +1,5 @@
 use Rattle.std.proofs.Common.{◌≡◌, ◌+◌, ◌≤◌, ◌++◌, length, option_map}
-use Rattle.trace_fields.specs.Numbers.{byte_of}
+use Rattle.trace_fields.specs.Numbers.{byte_reading}
 use Rattle.trace_fields.specs.Readings.{all_of, pairs_of}
 use Rattle.trace_fields.proofs.readings.bytes_of.Given as goal
 
@@ -8,7 +8,7 @@ abbrev pub invariant-loop-digits : goal.invariant-loop-digits
 invariant-loop-digits l = record {
   short : length l.bytes.items ≤ 8;
   counted : length l.bytes.items + length (pairs_of l.left) ≡ length (pairs_of l.field);
-  told : all_of byte_of (pairs_of l.field) ≡ option_map (λ rest. l.bytes.items ++ rest) (all_of byte_of (pairs_of l.left));
+  told : all_of byte_reading (pairs_of l.field) ≡ option_map (λ rest. l.bytes.items ++ rest) (all_of byte_reading (pairs_of l.left));
 }
 
 abbrev pub decreases-loop-digits : goal.decreases-loop-digits

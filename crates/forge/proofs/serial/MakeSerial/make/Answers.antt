@@ -1,7 +1,7 @@
 use Rattle.std.proofs.Common.{refl, subst, arith, List, [], ◌∷◌, ℕ}
 use Rattle.std.proofs.lemmas.List.{length-map}
 use Rattle.store_face.specs.State.{State}
-use Rattle.forge.specs.Words.{Command, Making}
+use Rattle.forge.specs.Words.{Command, MakingSerial}
 use Rattle.forge.specs.Ends.{Causes}
 use Rattle.forge.specs.Stops.{ending_of, making_seen, serial_seen, files_of, AreRead, IsMade, IsMadeFrom, IsStoppedForm}
 use Rattle.forge.proofs.Leaving.{err_of, err_more, ok_more}
@@ -27,7 +27,7 @@ index-requires-2 g c =
 
 pub returns-clause-made : goal.returns-clause-made
 returns-clause-made g c =
-    let m : Making = making_seen c.args.self.now in
+    let m : MakingSerial = making_seen c.args.self.now in
     let command : Command = serial_seen c.args.self.now in
     let old : State = g.S.Store.state c.args.store.now in
     let job : List ℕ = c.deref.result.now in

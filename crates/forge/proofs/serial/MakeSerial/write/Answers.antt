@@ -1,5 +1,5 @@
 use Rattle.store_face.specs.State.{State}
-use Rattle.forge.specs.Words.{Making}
+use Rattle.forge.specs.Words.{MakingSerial}
 use Rattle.forge.specs.Stops.{making_seen, files_of, ending_of, IsStoppedWrite, StopsLate}
 use Rattle.forge.proofs.Leaving.{stopped_at_order, stopped_at_trace, err_of, err_more}
 use Rattle.forge.proofs.serial.MakeSerial.write.Goals as goal
@@ -7,7 +7,7 @@ use Rattle.forge.proofs.serial.MakeSerial.write.Goals as goal
 pub returns-in_err-write_output-2-clause-stopped :
     goal.returns-in_err-write_output-2-clause-stopped
 returns-in_err-write_output-2-clause-stopped g c =
-    let m : Making = making_seen c.args.self.now in
+    let m : MakingSerial = making_seen c.args.self.now in
     let old : State = g.S.Store.state c.args.store.now in
     let new : State = g.S.Store.state c.write_output-2.new.store in
     let stop = c.in_err-write_output-2.field-0.0 in
@@ -19,7 +19,7 @@ returns-in_err-write_output-2-clause-stopped g c =
 
 pub returns-clause-stopped : goal.returns-clause-stopped
 returns-clause-stopped g c =
-    let m : Making = making_seen c.args.self.now in
+    let m : MakingSerial = making_seen c.args.self.now in
     let second : State = g.S.Store.state c.write_output-2.new.store in
     let third : State = g.S.Store.state c.write_output-3.new.store in
     err_more (λ s. IsStoppedWrite m.trace second third (ending_of s)) (λ s. StopsLate (files_of m c.args.made.now) (g.S.Store.state c.args.store.now) third (ending_of s))

@@ -5,7 +5,7 @@ use Rattle.std.proofs.lemmas.Option.{slice_get_cases, slice_get_within, slice_ge
 use Rattle.std.proofs.lemmas.List.{length-append}
 use Rattle.rv_step.specs.declared.hart.Hart.{Hart}
 use Rattle.rv_step.specs.Views.{hart_seen}
-use Rattle.rv_machine.specs.Views.{no_hart, reset_hart}
+use Rattle.rv_machine.specs.Views.{absent_hart, reset_hart}
 use Rattle.rv_fields.proofs.Lists.{get_of_more}
 use Rattle.rv_machine.proofs.Made.{IsMade}
 use Rattle.rv_machine.proofs.machine.Machine.new.Goals as goal
@@ -51,7 +51,7 @@ returns-clause-harts c h reset given =
       | inl there ↦
           let made = c.loop-number.invariant.each h there.0 there.2 in
           let same : made.reset ≡ reset = let a = made.given in cc in
-          ap (λ o. option_map_or hart_seen o no_hart) there.2 ∙ made.seen ∙ ap (reset_hart h) same
+          ap (λ o. option_map_or hart_seen o absent_hart) there.2 ∙ made.seen ∙ ap (reset_hart h) same
       | inr past ↦ absurd (omega arith)
     ]
 

@@ -11,7 +11,7 @@ use Rattle.ram_image.specs.Ram.{memory}
 use Rattle.rv_step.specs.declared.hart.Hart.{Hart}
 use Rattle.rv_step.specs.Views.{hart_seen, effect_seen, stepped_seen}
 use Rattle.rv_machine.specs.Links.{stands}
-use Rattle.rv_machine.specs.Views.{memory_seen, hart_in, no_hart}
+use Rattle.rv_machine.specs.Views.{memory_seen, hart_in, absent_hart}
 use Rattle.rv_fields.proofs.Lists.{get_of_set_other, get_of_set_same}
 use Rattle.rv_machine.proofs.Made.{harts_updated}
 use Rattle.rv_machine.proofs.machine.Machine.turn.Goals as goal
@@ -45,7 +45,7 @@ returns-clause-turn c =
     let held = slice_get_read items (length items) c.from.result own refl (omega arith) c.index_mut-own.ensures.value in
     let number : own.number ≡ c.args.hart = (c.args.self.now.numbered c.from.result own held).0 ∙ place in
     let hart : hart_in items c.args.hart ≡ hart_seen own =
-    ap (hart_in items) (sym place) ∙ ap (λ o. option_map_or hart_seen o no_hart) held in
+    ap (hart_in items) (sym place) ∙ ap (λ o. option_map_or hart_seen o absent_hart) held in
     record {
       stepped = stepped_seen c.step.new.hart c.step.result;
       step = (λ i. steps.step (sym c.make_room.ensures.same i) (hart i)) ∙ c.step.ensures.step;
