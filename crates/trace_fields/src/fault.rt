@@ -9,7 +9,7 @@ pub enum LineFault {
     /// The text isn't in its form. This is the first field that is wrong, missing or too many in the first line
     /// that has one. Lines and fields count from 1.
     At { line: u64, field: u32 },
-    /// Want of memory.
+    /// Out of memory.
     Memory,
 }
 

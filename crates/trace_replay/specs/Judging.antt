@@ -25,7 +25,7 @@ use Rattle.trace_replay.specs.Verdicts.{difference_seen}
 
 -- ---- faults
 
--- a fault as it is handed on: want of memory is told as such, whichever file was read
+-- a fault as it is handed on: being out of memory is told as such, whichever file was read
 abbrev pub handed_on : ReplayFault → ReplayFault
 handed_on (Elf elf_fault.Memory) = Memory
 handed_on (Order line_fault.Memory) = Memory

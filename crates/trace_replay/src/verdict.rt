@@ -141,7 +141,7 @@ impl ReplayFault {
         ReplayFault::Trace(fault).handed_on()
     }
 
-    /// As it is handed on: want of memory is told as such, whichever file was read.
+    /// As it is handed on: being out of memory is told as such, whichever file was read.
     fn handed_on(self) -> ReplayFault
         ensures { result ≡ handed_on self }
     {
