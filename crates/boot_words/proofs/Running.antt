@@ -1,6 +1,6 @@
 -- Steps of a hart that boots: in mode M, without traps, over memory that stays as it is.
 use Rattle.std.proofs.Common.{ℕ, suc, ◌+◌, ◌%◌, ◌^◌, ◌<◌, ◌≡◌, ◌≢◌, Bool, true, false, cond, eqb, eq-eqb, List, [], ◌∷◌, ◌++◌, Some, None, refl, sym, ap, subst, ◌∙◌, arith}
-use Rattle.std.specs.Prelude.{option_map, pos}
+use Rattle.std.specs.Prelude.{not, option_map, pos, ◌&&◌}
 use Rattle.std.proofs.lemmas.Bool.{ne_eqb}
 use Rattle.rv_fields.specs.declared.access.AccessKind.TheVariants.{Load}
 use Rattle.rv_fields.specs.declared.class.Class.TheVariants.{Computes}
@@ -13,7 +13,7 @@ use Rattle.rv_fields.specs.declared.class.CsrChange.TheVariants.{Swap}
 use Rattle.rv_fields.specs.Attempt.{◌>>=◌}
 use Rattle.rv_fields.specs.Class.{class_of}
 use Rattle.rv_fields.specs.Csr.{csr_at, csr_number}
-use Rattle.rv_fields.specs.CsrFile.{CsrFile, is_read_only, may_write, reading, written}
+use Rattle.rv_fields.specs.CsrFile.{CsrFile, is_read_only, may_read, may_write, reading, written}
 use Rattle.rv_fields.specs.Decode.{Decoded, rs1_read}
 use Rattle.rv_fields.specs.Field.{field_of}
 use Rattle.rv_fields.specs.Hart.{Hart, IsComplete, updated}
@@ -151,7 +151,7 @@ loads seen h pc csrs hart r base offset v at stands bare x31 small aligned tells
     untranslated = rw (at.mode, at.csrs_are, bare) refl
 
 -- a CSR that M may write is found by its number
-named : (csr : Csr) → csr_at (modulo (2 ^ 12) (pos (csr_number csr))) ≡ Some csr
+pub named : (csr : Csr) → csr_at (modulo (2 ^ 12) (pos (csr_number csr))) ≡ Some csr
 named Sstatus = refl
 named Stvec = refl
 named Sscratch = refl
@@ -172,26 +172,30 @@ named Pmpcfg0 = refl
 named Pmpaddr0 = refl
 named Mhartid = refl
 
+-- M may read each, and write each that isn't read-only
+pub m_may_read : (file : CsrFile) (csr : Csr) → may_read file csr M ≡ true
+m_may_read file Sstatus = refl
+m_may_read file Stvec = refl
+m_may_read file Sscratch = refl
+m_may_read file Sepc = refl
+m_may_read file Scause = refl
+m_may_read file Stval = refl
+m_may_read file Satp = refl
+m_may_read file Mstatus = refl
+m_may_read file Medeleg = refl
+m_may_read file Mideleg = refl
+m_may_read file Mie = refl
+m_may_read file Mtvec = refl
+m_may_read file Mscratch = refl
+m_may_read file Mepc = refl
+m_may_read file Mcause = refl
+m_may_read file Mtval = refl
+m_may_read file Pmpcfg0 = refl
+m_may_read file Pmpaddr0 = refl
+m_may_read file Mhartid = refl
+
 m_may_write : (file : CsrFile) (csr : Csr) → is_read_only csr ≡ false → may_write file csr M ≡ true
-m_may_write file Sstatus open_to = refl
-m_may_write file Stvec open_to = refl
-m_may_write file Sscratch open_to = refl
-m_may_write file Sepc open_to = refl
-m_may_write file Scause open_to = refl
-m_may_write file Stval open_to = refl
-m_may_write file Satp open_to = refl
-m_may_write file Mstatus open_to = refl
-m_may_write file Medeleg open_to = refl
-m_may_write file Mideleg open_to = refl
-m_may_write file Mie open_to = refl
-m_may_write file Mtvec open_to = refl
-m_may_write file Mscratch open_to = refl
-m_may_write file Mepc open_to = refl
-m_may_write file Mcause open_to = refl
-m_may_write file Mtval open_to = refl
-m_may_write file Pmpcfg0 open_to = refl
-m_may_write file Pmpaddr0 open_to = refl
-m_may_write file Mhartid open_to = absurd cc
+m_may_write file csr open_to = ap (λ t. t && not (is_read_only csr)) (m_may_read file csr) ∙ ap not open_to
 
 -- the CSR is written
 abbrev pub wrote_csr : Hart → Csr → ℕ → Hart
