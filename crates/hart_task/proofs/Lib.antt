@@ -1,4 +1,5 @@
 pub mod Fixing
+pub mod Bare
 pub mod Plainly
 pub mod Spelling
 pub mod Standing
@@ -10,6 +11,7 @@ pub mod Makes
 pub mod Begun
 pub mod Turning
 pub mod Begins
+pub mod Led
 pub mod Made
 pub mod Blocked
 pub mod Words

@@ -1,35 +1,33 @@
 -- A word that is made and stepped: what the hart's machine does then.
-use Rattle.std.proofs.Common.{ℕ, zero, suc, ◌+◌, ◌-◌, ◌*◌, ◌/◌, ◌%◌, ◌^◌, ◌<◌, ◌≡◌, Bool, true, false, cond, eqb, ltb, leb, eqb-true, eq-eqb, List, [], ◌∷◌, length, get_or, Option, Some, None, refl, sym, ap, subst, ◌∙◌, arith, filter}
-use Rattle.std.specs.Prelude.{is_none, option_map, ◌&&◌, IsSome, IsTrue}
+use Rattle.std.proofs.Common.{ℕ, zero, suc, ◌+◌, ◌-◌, ◌*◌, ◌/◌, ◌%◌, ◌^◌, ◌<◌, ◌≡◌, Bool, true, false, cond, eqb, ltb, eqb-true, eq-eqb, List, [], ◌∷◌, length, get_or, Option, Some, None, refl, sym, ap, subst, ◌∙◌, arith, filter}
+use Rattle.std.specs.Prelude.{is_none, is_some, not, option_map, ◌&&◌, ◌||◌, IsSome}
 use Rattle.std.specs.Int.{w32, to_le_bytes}
 use Rattle.std.specs.List.{AllByRecursion}
 use Rattle.std.specs.Option.{option_map_or}
 use Rattle.std.proofs.lemmas.Bool.Decides.{nat_tests}
-use Rattle.rv_fields.specs.declared.class.Class.{Class}
-use Rattle.rv_fields.specs.declared.class.Class.TheVariants.{Computes, Jumps}
-use Rattle.rv_fields.specs.declared.mode.Mode.TheVariants.{M}
+use Rattle.rv_fields.specs.Attempt.{◌>>=◌}
 use Rattle.rv_fields.specs.declared.access.AccessKind.{AccessKind}
+use Rattle.rv_fields.specs.declared.mode.Mode.TheVariants.{M}
 use Rattle.rv_fields.specs.Class.{access_in, class_of}
 use Rattle.rv_fields.specs.Decode.{Decoded, decoded, rs1_read, sources}
+use Rattle.rv_fields.specs.Effect.{Effect}
 use Rattle.rv_fields.specs.Hart.{Hart, Registers, updated}
-use Rattle.rv_fields.specs.Laws.{Below, Extends, TellsMore, names_open, with_registers}
-use Rattle.rv_fields.specs.Memory.{told, in_ram}
-use Rattle.rv_fields.specs.Step.{step, with_write}
-use Rattle.rv_fields.proofs.MoreTold.{more_told}
+use Rattle.rv_fields.specs.Laws.{TellsMore, names_open_at, with_registers}
+use Rattle.rv_fields.specs.Memory.{Seen, told, in_ram}
+use Rattle.rv_fields.specs.Step.{Stepped, step}
 use Rattle.rv_fields.proofs.Told.{told_word}
 use Rattle.rv_fields.proofs.Updated.{updated_at}
 use Rattle.choice_tree.specs.Draws.{Draws, next_word, skipped}
 use Rattle.region_plan.specs.Plan.{HartPlan, Work, no_hart, plan_of}
 use Rattle.boot_words.specs.Layout.{code_address, code_start, data_start, window_at, window_by, window_words}
 use Rattle.hart_task.specs.Acts.{Fixing}
-use Rattle.hart_task.specs.Bus.{word_seen}
 use Rattle.hart_task.specs.Heard.{Heard}
-use Rattle.hart_task.specs.Plain.{plain_effect}
 use Rattle.hart_task.specs.State.{HartState, index_of}
-use Rattle.hart_task.specs.Stepping.{StepTaken, byte_of, fixed_in, is_conditional, late_registers, lies_in, seen_of, word_here}
-use Rattle.hart_task.specs.Turn.{made_step, with_word}
+use Rattle.hart_task.specs.Stepping.{StepTaken, byte_count, byte_of, bytes_fixed, fixed_in, is_conditional, is_sc, keeps_rules, late_registers, lies_in, named_by, probe_at, runs_of, seen_of, stepped, stepped_word, taken_step, with_fixed, word_here}
+use Rattle.hart_task.specs.Turn.{made_at, made_step, with_word}
+use Rattle.hart_task.proofs.Bare.{IsBare, IsQuietEffect, TellsSources, bare, bare_quiet, bare_step, fetched_bare}
 use Rattle.hart_task.proofs.Fixing.{late_in}
-use Rattle.hart_task.proofs.Plainly.{TellsOwn, alike, below_back, fetched_bare, found_in, own_word_told}
+use Rattle.hart_task.proofs.Plainly.{found_in}
 
 -- ---- what is fixed has a value
 
@@ -83,27 +81,27 @@ tells_fixed x y (f ∷ fs) more = tells_fixed (updated x f.register (Some f.valu
     of true r v e = e
     of false r v e = more r v e
 
-source_below : (x y : Registers) (fs : List Fixing) (r : ℕ) → TellsMore x y → IsSome (fixed_in x fs r) → Below (fixed_in y fs r) (fixed_in x fs r)
-source_below x y fs r more some =
-    let a = found_in (fixed_in x fs r) some in
-    below_back (fixed_in x fs r) (fixed_in y fs r) a.0 a.1 (tells_fixed x y fs more r)
+-- the registers that a word reads have values, when those that have none are fixed
+pub record HasSources (x : Registers) (m : Option Decoded) : Type 0 where
+  pub a : ℕ
+  pub b : ℕ
+  pub told : TellsSources x m a b
 
-sources_below : (x y : Registers) (draws : Draws) (d : Decoded) → TellsMore x y
-    → Below (fixed_in y (late_in x draws (sources d)) (rs1_read d)) (fixed_in x (late_in x draws (sources d)) (rs1_read d))
-    × Below (fixed_in y (late_in x draws (sources d)) d.ops.rs2) (fixed_in x (late_in x draws (sources d)) d.ops.rs2)
-sources_below x y draws d more = of (eqb (rs1_read d) d.ops.rs2) refl (all_some x x draws (sources d) (λ r some. some))
+pub sources_told : (x : Registers) (draws : Draws) (m : Option Decoded) → HasSources (fixed_in x (late_in x draws (named_by m))) m
+sources_told x draws None = record { a = 0; b = 0; told = tt }
+sources_told x draws (Some d) = of (eqb (rs1_read d) d.ops.rs2) refl (all_some x x draws (sources d) (λ r some. some))
   where
-    fs : List Fixing
-    fs = late_in x draws (sources d)
+    after : Registers
+    after = fixed_in x (late_in x draws (sources d))
 
-    one_below : (r : ℕ) → IsSome (fixed_in x fs r) → Below (fixed_in y fs r) (fixed_in x fs r)
-    one_below r some = source_below x y fs r more some
-
-    of : (t : Bool) → t ≡ eqb (rs1_read d) d.ops.rs2 → Holds (λ r. IsSome (fixed_in x fs r)) (cond t (rs1_read d ∷ []) (rs1_read d ∷ d.ops.rs2 ∷ []))
-        → Below (fixed_in y fs (rs1_read d)) (fixed_in x fs (rs1_read d)) × Below (fixed_in y fs d.ops.rs2) (fixed_in x fs d.ops.rs2)
-    of true e some = let same : rs1_read d ≡ d.ops.rs2 = eqb-true (rs1_read d) d.ops.rs2 (sym e) in
-        (one_below (rs1_read d) some.0, subst (λ r. Below (fixed_in y fs r) (fixed_in x fs r)) same (one_below (rs1_read d) some.0))
-    of false e some = (one_below (rs1_read d) some.0, one_below d.ops.rs2 some.1.0)
+    of : (t : Bool) → t ≡ eqb (rs1_read d) d.ops.rs2 → Holds (λ r. IsSome (after r)) (cond t (rs1_read d ∷ []) (rs1_read d ∷ d.ops.rs2 ∷ [])) → HasSources after (Some d)
+    of true e some =
+        let a = found_in (after (rs1_read d)) some.0 in
+        record { a = a.0; b = a.0; told = (a.1, ap after (sym (eqb-true (rs1_read d) d.ops.rs2 (sym e))) ∙ a.1) }
+    of false e some =
+        let a = found_in (after (rs1_read d)) some.0 in
+        let b = found_in (after d.ops.rs2) some.1.0 in
+        record { a = a.0; b = b.0; told = (a.1, b.1) }
 
 -- ---- the word at pc
 
@@ -149,57 +147,102 @@ told_here : (work : Work) (s : HartState) (heard : Heard) (index word : ℕ) →
 told_here work s heard index word at = told_word (seen_of work s heard).byte s.hart.pc word (in_it work s index word at) at.fits (λ j small.
     ap (λ p. (seen_of work s heard).byte (p + j)) at.pc ∙ window_byte work s heard index j word at.window at.few at.short small at.made ∙ ap Some (sym (byte_of_word word j small at.fits)))
 
-here_is : (work : Work) (s : HartState) (heard : Heard) (index word : ℕ) → StandsAt work s index word → word_here s (seen_of work s heard) ≡ Some word
-here_is work s heard index word at =
-    rw (fetched_bare (seen_of work s heard) s.hart at.mode) (rw (told_here work s heard index word at) refl)
-
--- what one word tells, the hart sees
-sees_word : (work : Work) (s : HartState) (heard : Heard) (index word : ℕ) → StandsAt work s index word → Extends (word_seen s.hart.pc word) (seen_of work s heard)
-sees_word work s heard index word at = record { byte = λ a. of a (leb s.hart.pc a && ltb a (s.hart.pc + 4)) refl; link = λ h g b e. absurd cc }
-  where
-    of : (a : ℕ) (t : Bool) → t ≡ (leb s.hart.pc a && ltb a (s.hart.pc + 4)) → Below (cond t (Some (get_or (to_le_bytes w32 word) (a - s.hart.pc) 0)) None) ((seen_of work s heard).byte a)
-    of a false e b is = absurd cc
-    of a true e b is =
-        let inside : a - s.hart.pc < 4 = grind (arith, nat_tests) in
-        let place : s.hart.pc + (a - s.hart.pc) ≡ a = grind (arith, nat_tests) in
-        ap (seen_of work s heard).byte (sym place) ∙ ap (λ p. (seen_of work s heard).byte (p + (a - s.hart.pc))) at.pc
-        ∙ window_byte work s heard index (a - s.hart.pc) word at.window at.few at.short inside at.made
-        ∙ ap Some (sym (byte_of_word word (a - s.hart.pc) inside at.fits)) ∙ is
-
 -- ---- the step
 
--- classes of words whose steps no log has to tell more of
-pub data IsQuiet (c : Class) : Type 0 where
-  computing : c ≡ Computes → IsQuiet c
-  jumping : c ≡ Jumps → IsQuiet c
+-- A word of 32 bits that accesses no memory, and names neither mcause nor mtval.
+pub record IsQuietWord (word : ℕ) (m : Option Decoded) : Type 0 where
+  pub small : word < 2 ^ 32
+  pub row : decoded word ≡ m
+  pub bare : IsBare m
+  pub closed : names_open_at m ≡ false
 
-quiet_closed : (d : Decoded) → IsQuiet (class_of d.ins) → names_open (class_of d.ins) d ≡ false
-quiet_closed d (computing is) = ap (λ c. names_open c d) is
-quiet_closed d (jumping is) = ap (λ c. names_open c d) is
+-- what is fixed when the hart steps the word
+abbrev pub late_by : HartState → Option Decoded → List Fixing
+late_by s m = late_in s.hart.x s.draws (named_by m)
 
--- what the instructions of a class do to memory
-abbrev kind_in : Class → Option AccessKind
-kind_in c = option_map (λ access. access.0) (access_in c)
+-- the hart then
+abbrev pub fixed_hart : HartState → Option Decoded → Hart
+fixed_hart s m = with_registers (fixed_in s.hart.x (late_by s m)) s.hart
 
-quiet_sc : (c : Class) → IsQuiet c → option_map_or is_conditional (kind_in c) false ≡ false
-quiet_sc c (computing is) = ap (λ q. option_map_or is_conditional (kind_in q) false) is
-quiet_sc c (jumping is) = ap (λ q. option_map_or is_conditional (kind_in q) false) is
+-- the step that is taken
+abbrev pub word_taken : HartState → Option Decoded → Stepped → StepTaken
+word_taken s m r = record {
+  registers = late_by s m;
+  bytes = [];
+  effect = r.effect;
+  probe = None;
+  state = record s { hart = r.hart; draws = skipped s.draws (length (late_by s m) + 0); steps = s.steps + 1 };
+}
 
--- what was done by the hart with all its registers, the log's hart does with those that it knows
-same_step : (work : Work) (s : HartState) (heard : Heard) (index word : ℕ) (d : Decoded) (x : Registers) (draws : Draws) (rd : Option (ℕ × ℕ)) (next : Hart)
-    → StandsAt work s index word → decoded word ≡ Some d → TellsMore s.hart.x x
-    → step (word_seen s.hart.pc word) (with_registers (fixed_in x (late_in s.hart.x draws (sources d))) s.hart)
-    ≡ Some (record { effect = plain_effect s.hart word rd; hart = next })
-    → step (seen_of work s heard) (with_registers (fixed_in s.hart.x (late_in s.hart.x draws (sources d))) s.hart)
-    ≡ Some (record { effect = plain_effect s.hart word rd; hart = with_registers (with_write (fixed_in s.hart.x (late_in s.hart.x draws (sources d))) rd) next })
-same_step work s heard index word d x draws rd next at row more does =
-    let fs : List Fixing = late_in s.hart.x draws (sources d) in
-    let part : Registers = fixed_in s.hart.x fs in
-    let below = sources_below s.hart.x x draws d more in
-    let own : TellsOwn s.hart.pc word = own_word_told s.hart.pc word (subst IsTrue (sym (in_it work s index word at)) refl) at.fits in
-    let alone = alike (with_registers (fixed_in x fs) s.hart) word d (record { effect = plain_effect s.hart word rd; hart = next }) part at.mode own row refl does below.0 below.1 in
-    more_told (word_seen s.hart.pc word) (seen_of work s heard) (sees_word work s heard index word at) part (with_registers part s.hart) (λ r v e. e)
-    (record { effect = plain_effect s.hart word rd; hart = with_registers (with_write part rd) next }) alone
+-- what the instructions of a class do to memory, where they access none
+bare_sc : (d : Decoded) → access_in (class_of d.ins) ≡ None → is_sc d.ins ≡ false
+bare_sc d alone = ap (λ (m : Option (AccessKind × ℕ)). option_map_or is_conditional (option_map (λ access. access.0) m) false) alone
+
+where_true : {A : Type 0} (t : Bool) (x y : A) → t ≡ true → cond t x y ≡ x
+where_true true x y is = refl
+where_true false x y is = absurd cc
+
+either : (t u : Bool) → u ≡ true → (t || u) ≡ true
+either true u is = refl
+either false u is = is
+
+no_probe : (s : HartState) (seen : Seen) (m : Option Decoded) (e : Effect) → IsBare m → probe_at s seen m e ≡ None
+no_probe s seen None e alone = refl
+no_probe s seen (Some d) e alone = where_true (is_some e.trap || not (is_sc d.ins)) None _ (either (is_some e.trap) (not (is_sc d.ins)) (ap not (bare_sc d alone)))
+
+keeps_all : (hart : Hart) (word : ℕ) (m : Option Decoded) (e : Effect) → IsQuietWord word m → IsQuietEffect hart word e → keeps_rules e ≡ true
+keeps_all hart word m e quiet is = ap keeps_rules is ∙ ap (λ k. not (names_open_at k) && true) quiet.row ∙ ap (λ t. not t && true) quiet.closed
+
+taken_is : (work : Work) (s : HartState) (heard : Heard) (word : ℕ) (m : Option Decoded) (r : Stepped) → IsBare m → IsQuietEffect (fixed_hart s m) word r.effect
+    → taken_step (record s { steps = s.steps + 1 }) (seen_of work s heard) heard None m (late_by s m) r ≡ word_taken s m r
+taken_is work s heard word m r alone is = λ i. record {
+  registers = late_by s m;
+  bytes = bytes_fixed (runs_of heard (access i)) (access i) None (skipped s.draws (length (late_by s m)));
+  effect = r.effect;
+  probe = option_map (λ pa. (pa, option_map_or (λ (p : ℕ × Bool). p.1) heard.probe false)) (probe i);
+  state = record s { hart = r.hart; draws = skipped s.draws (length (late_by s m) + byte_count (runs_of heard (access i))); steps = s.steps + 1 };
+}
+  where
+    access : r.effect.access ≡ None
+    access = ap (λ (e : Effect). e.access) is
+
+    probe : probe_at (with_fixed (record s { steps = s.steps + 1 }) (late_by s m)) (seen_of work s heard) m r.effect ≡ None
+    probe = no_probe (with_fixed (record s { steps = s.steps + 1 }) (late_by s m)) (seen_of work s heard) m r.effect alone
+
+-- A word that stands at pc is stepped.
+pub stepped_is : (work : Work) (s : HartState) (heard : Heard) (word : ℕ) (m : Option Decoded) (a b : ℕ) → s.hart.mode ≡ M
+    → told (seen_of work s heard).byte s.hart.pc 4 ≡ Some (Some word) → IsQuietWord word m → TellsSources (fixed_in s.hart.x (late_by s m)) m a b
+    → stepped work s heard None ≡ Some (word_taken s m (bare_step (fixed_hart s m) word m a b))
+stepped_is work s heard word m a b is_m tells quiet sources =
+    ap (λ (found : Option ℕ). found >>= by_word) here
+    ∙ ap (λ k. stepped_word work s1 heard None k (late_by s k)) quiet.row
+    ∙ ap (λ (did : Option Stepped). did >>= by_step) did
+    ∙ ap (λ t. cond t (Some (taken_step s1 seen heard None m (late_by s m) r)) None) (keeps_all (fixed_hart s m) word m r.effect quiet effect)
+    ∙ ap Some (taken_is work s heard word m r quiet.bare effect)
+  where
+    seen : Seen
+    seen = seen_of work s heard
+
+    s1 : HartState
+    s1 = record s { steps = s.steps + 1 }
+
+    r : Stepped
+    r = bare_step (fixed_hart s m) word m a b
+
+    by_word : ℕ → Option StepTaken
+    by_word w = stepped_word work s1 heard None (decoded w) (late_by s (decoded w))
+
+    by_step : Stepped → Option StepTaken
+    by_step r = cond (keeps_rules r.effect) (Some (taken_step s1 seen heard None m (late_by s m) r)) None
+
+    here : word_here s seen ≡ Some word
+    here = rw (fetched_bare seen s.hart is_m) (rw tells refl)
+
+    did : step seen (fixed_hart s m) ≡ Some r
+    did = bare seen (fixed_hart s m) word m a b is_m tells quiet.row quiet.bare sources
+
+    effect : IsQuietEffect (fixed_hart s m) word r.effect
+    effect = bare_quiet (fixed_hart s m) word m a b quiet.bare
 
 -- ---- the word that is made
 
@@ -235,45 +278,30 @@ stands_at work s index word at fits = record {
   mode = at.mode;
 }
 
--- what the step of the word leaves
-abbrev pub word_taken : HartState → List Fixing → ℕ → Option (ℕ × ℕ) → Hart → StepTaken
-word_taken s late word rd next = record {
-  registers = late;
-  bytes = [];
-  effect = plain_effect s.hart word rd;
-  probe = None;
-  state = record s { hart = next; draws = skipped s.draws (length late + 0); steps = s.steps + 1 };
-}
-
--- The log's hart makes the word and steps it.
-pub made_is : (work : Work) (s : HartState) (heard : Heard) (index word : ℕ) (d : Decoded) (x : Registers) (rd : Option (ℕ × ℕ)) (next : Hart)
-    → MakesAt work s index → word < 2 ^ 32 → decoded word ≡ Some d → IsQuiet (class_of d.ins) → TellsMore s.hart.x x
-    → step (word_seen s.hart.pc word) (with_registers (fixed_in x (late_in s.hart.x s.draws (sources d))) s.hart)
-    ≡ Some (record { effect = plain_effect s.hart word rd; hart = next })
-    → made_step work s word heard None
-    ≡ Some (word_taken (with_word work s word) (late_in s.hart.x s.draws (sources d)) word rd (with_registers (with_write (fixed_in s.hart.x (late_in s.hart.x s.draws (sources d))) rd) next))
-made_is work s heard index word d x rd next at fits row quiet more does =
-    rw (here_is work s' heard index word stands) (rw row (rw did (rw row (rw closed (rw no_sc (rw place refl))))))
+-- The hart makes the word and steps it.
+pub made_is : (work : Work) (s : HartState) (heard : Heard) (index word : ℕ) (m : Option Decoded) (a b : ℕ) → MakesAt work s index → IsQuietWord word m
+    → TellsSources (fixed_in s.hart.x (late_by s m)) m a b
+    → made_step work s word heard None ≡ Some (word_taken (with_word work s word) m (bare_step (fixed_hart s m) word m a b))
+made_is work s heard index word m a b at quiet sources =
+    ap (λ (taken : Option StepTaken). taken >>= if_there) (stepped_is work s1 heard word m a b at.mode (told_here work s1 heard index word stands) quiet sources)
+    ∙ ap (λ t. cond t (Some (word_taken s1 m r)) None) place
   where
-    s' : HartState
-    s' = with_word work s word
+    s1 : HartState
+    s1 = with_word work s word
 
-    late : List Fixing
-    late = late_in s.hart.x s.draws (sources d)
+    r : Stepped
+    r = bare_step (fixed_hart s m) word m a b
 
-    stands : StandsAt work s' index word
-    stands = stands_at work s index word at fits
+    if_there : StepTaken → Option StepTaken
+    if_there t = cond (is_none (s.words (index_of work s)) && made_at work s word t.effect) (Some t) None
 
-    did : step (seen_of work s' heard) (with_registers (fixed_in s.hart.x late) s.hart)
-        ≡ Some (record { effect = plain_effect s.hart word rd; hart = with_registers (with_write (fixed_in s.hart.x late) rd) next })
-    did = same_step work s' heard index word d x s.draws rd next stands row more does
+    stands : StandsAt work s1 index word
+    stands = stands_at work s index word at quiet.small
 
-    closed : names_open (class_of d.ins) d ≡ false
-    closed = quiet_closed d quiet
+    there : made_at work s word r.effect ≡ (eqb (code_start s.hart.number + 4 * index_of work s) s.hart.pc && eqb word word)
+    there = ap (made_at work s word) (bare_quiet (fixed_hart s m) word m a b quiet.bare)
 
-    no_sc : option_map_or is_conditional (kind_in (class_of d.ins)) false ≡ false
-    no_sc = quiet_sc (class_of d.ins) quiet
-
-    place : (is_none (s.words (index_of work s)) && (eqb (code_start s.hart.number + 4 * index_of work s) s.hart.pc && eqb word word)) ≡ true
-    place = ap (λ i. is_none (s.words i) && (eqb (code_start s.hart.number + 4 * i) s.hart.pc && eqb word word)) (index_is work s index at)
+    place : (is_none (s.words (index_of work s)) && made_at work s word r.effect) ≡ true
+    place = ap (λ t. is_none (s.words (index_of work s)) && t) there
+        ∙ ap (λ i. is_none (s.words i) && (eqb (code_start s.hart.number + 4 * i) s.hart.pc && eqb word word)) (index_is work s index at)
         ∙ rw at.free (rw (eq-eqb (code_address s.hart.number index) s.hart.pc (sym at.pc)) (eq-eqb word word refl))

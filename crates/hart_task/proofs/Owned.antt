@@ -25,7 +25,7 @@ use Rattle.hart_task.specs.State.{HartState, start}
 use Rattle.hart_task.specs.Stepping.{StepTaken, bytes_fixed, fixed_in, late_registers, named_by, runs_of, seen_of, untouched}
 use Rattle.hart_task.specs.Turn.{acted, acts, with_word}
 use Rattle.hart_task.proofs.Begun.{starting_append}
-use Rattle.hart_task.proofs.Blocked.{did}
+use Rattle.hart_task.proofs.Led.{did}
 use Rattle.hart_task.proofs.Going.{EachFixed, each_late, none_before}
 use Rattle.hart_task.proofs.Lined.{touched_lines}
 use Rattle.hart_task.proofs.Made.{Taken, late_for, made_was, number_after, taken}

@@ -1,37 +1,39 @@
 -- A task behind a step stands where the hart's machine does.
-use Rattle.std.proofs.Common.{ℕ, zero, suc, ◌+◌, ◌*◌, ◌^◌, ◌<◌, ◌≤◌, ◌≡◌, Bool, true, false, cond, eqb, eqb-true, eq-eqb, List, [], ◌∷◌, ◌++◌, length, Option, Some, None, refl, sym, ap, subst, ◌∙◌, arith, append_assoc, append-nil}
+use Rattle.std.proofs.Common.{ℕ, zero, suc, ◌+◌, ◌*◌, ◌<◌, ◌≤◌, ◌≡◌, Bool, true, false, cond, eqb, eqb-true, eq-eqb, List, [], ◌∷◌, ◌++◌, length, Option, Some, None, refl, sym, ap, subst, ◌∙◌, arith, append_assoc, append-nil}
 use Rattle.std.specs.Prelude.{drop, is_none, slice_get}
 use Rattle.std.proofs.lemmas.Bool.{ne_eqb}
 use Rattle.std.proofs.lemmas.List.{map-append, length-append}
 use Rattle.std.proofs.lemmas.Grind.{flat_map-append}
+use Rattle.std.proofs.lemmas.Option.{same_Some}
 use Rattle.rv_fields.specs.declared.mode.Mode.TheVariants.{M}
-use Rattle.rv_fields.specs.Class.{class_of}
-use Rattle.rv_fields.specs.Decode.{Decoded, decoded, rs1_read, sources}
-use Rattle.rv_fields.specs.Hart.{Hart, updated}
-use Rattle.rv_fields.specs.Laws.{TellsMore, with_registers}
-use Rattle.rv_fields.specs.Step.{step, with_write}
+use Rattle.rv_fields.specs.Decode.{Decoded, rs1_read}
+use Rattle.rv_fields.specs.Effect.{Effect}
+use Rattle.rv_fields.specs.Hart.{Hart, Registers, updated}
+use Rattle.rv_fields.specs.Laws.{Extends, StepLeaves, TellsMore, from_registers, with_registers}
+use Rattle.rv_fields.specs.Memory.{Seen}
+use Rattle.rv_fields.specs.Step.{Stepped, step, with_write}
+use Rattle.rv_fields.proofs.MoreTold.{more_told}
 use Rattle.choice_tree.specs.Draws.{next_word, skipped}
 use Rattle.region_plan.specs.Plan.{Work, hart_count, plan_of}
 use Rattle.trace_text.specs.Lines.{Line, starting}
 use Rattle.boot_words.specs.Layout.{code_address}
 use Rattle.world_face.specs.Events.{Event, Placed}
 use Rattle.world_face.specs.Runs.{Runs}
-use Rattle.hart_task.specs.Acts.{Act, Fixing, Came, event_of, fixing_lines, is_last, is_made, steps}
+use Rattle.hart_task.specs.Acts.{Act, event_of, fixing_lines}
 use Rattle.hart_task.specs.Bus.{word_seen}
 use Rattle.hart_task.specs.Heard.{Heard, heard_of}
 use Rattle.hart_task.specs.Log.{events_of}
 use Rattle.hart_task.specs.OneRun.{RunsTo, all_lines}
-use Rattle.hart_task.specs.Plain.{plain_effect}
-use Rattle.hart_task.specs.State.{HartState, at_end, between, entries_at_first, index_of, start}
+use Rattle.hart_task.specs.State.{HartState, entries_at_first, index_of, start}
 use Rattle.hart_task.specs.Stepping.{fixed_in, late_registers}
 use Rattle.hart_task.specs.Task.{TaskSeen, Stands, IsMaking, index_at, fixed_task, late_of, late_one, phase_seen, script, state_of, stepped_task, task_event, words_made}
 use Rattle.hart_task.specs.declared.task.Phase as task
-use Rattle.hart_task.specs.declared.task.Phase.TheVariants as tasks
-use Rattle.hart_task.specs.Turn.{Turned, acted, acts, end_word, turned}
+use Rattle.hart_task.specs.Turn.{Turned, acted, acts, turned}
 use Rattle.hart_task.proofs.Begun.{starting_fixed, starting_kept}
 use Rattle.hart_task.proofs.Fixing.{at_most_one, both_fixed, both_told, late_is}
-use Rattle.hart_task.proofs.Going.{each_late, none_before, value_kept}
-use Rattle.hart_task.proofs.Makes.{IsQuiet, MakesAt, index_is, made_is, tells_fixed, word_taken}
+use Rattle.hart_task.proofs.Going.{none_before}
+use Rattle.hart_task.proofs.Led.{IsInWindow, IsMember, behind_word, leaves_so, stepped_so, steps_so}
+use Rattle.hart_task.proofs.Makes.{IsQuietWord, fixed_hart, tells_fixed}
 use Rattle.hart_task.proofs.Plainly.{more_written}
 
 -- ---- one event more
@@ -61,71 +63,81 @@ words_after (w ∷ ws) word (suc i) = ap (λ t. cond t (Some word) (slice_get ws
         of true e = let same : m ≡ n = eqb-true m n (sym e) in eq-eqb (suc m) (suc n) (ap suc same)
         of false e = ne_eqb (suc m) (suc n) (λ same. let both : eqb m n ≡ true = eq-eqb m n (omega (arith, same)) in absurd cc)
 
--- ---- the machine's turn, in the two phases in which a word is made
-
-abbrev stepping : Came → Option ℕ → List Fixing → Hart → ℕ → Option (ℕ × ℕ) → Act
-stepping came ends late hart word rd =
-    steps (record { came = came; registers = late; bytes = []; effect = plain_effect hart word rd; wanted = None; probe = None; ends = ends })
-
 abbrev pub in_phase : TaskSeen → task.Phase → TaskSeen
 in_phase t phase = record t { phase = phase }
 
--- what is known where a task makes a word
-pub record Going (work : Work) (t : TaskSeen) (word : ℕ) (d : Decoded) (rd : Option (ℕ × ℕ)) (next : Hart) : Type 0 where
-  pub makes : MakesAt work (state_of work t) (length t.log.words)
-  pub fits : word < 2 ^ 32
-  pub row : decoded word ≡ Some d
-  pub quiet : IsQuiet (class_of d.ins)
-  pub held : TellsMore t.log.present t.hart.x
-  pub does : step (word_seen t.hart.pc word) (fixed_task t (late_of t d)).hart ≡ Some (record { effect = plain_effect t.hart word rd; hart = next })
+-- ---- the step of the code is that of the machine
 
--- the state behind, but for its phase
-abbrev behind_step : Work → TaskSeen → ℕ → Decoded → Option (ℕ × ℕ) → Hart → HartState
-behind_step work t word d rd next =
-    let s : HartState = state_of work t in
-    (word_taken (record s { words = updated s.words (index_of work s) (Some word) }) (late_of t d) word rd (with_registers (with_write (fixed_in t.log.present (late_of t d)) rd) next)).state
+itself : (seen : Seen) → Extends seen seen
+itself seen = record { byte = λ a b e. e; link = λ h g b e. e }
 
--- a request under way makes its word, and is done
-pub made_turns : (work : Work) (t : TaskSeen) (heard : Heard) (k word : ℕ) (d : Decoded) (rd : Option (ℕ × ℕ)) (next : Hart)
-    → Going work (in_phase t (tasks.Making (record { k = k; word = word }))) word d rd next
-    → turned work (state_of work (in_phase t (tasks.Making (record { k = k; word = word })))) heard
-    ≡ Some (record { act = stepping is_made (Some k) (late_of t d) t.hart word rd; state = record (behind_step work t word d rd next) { phase = between } })
-made_turns work t heard k word d rd next g =
-    rw (made_is work (state_of work (in_phase t (tasks.Making (record { k = k; word = word })))) heard (length t.log.words) word d t.hart.x rd next g.makes g.fits g.row g.quiet g.held g.does) refl
+-- What the code's hart does, all of whose registers have values, the machine's hart does, which knows fewer.
+pub record IsSame (t : TaskSeen) (d : Decoded) (r : Stepped) (effect : Effect) (next : Hart) : Type 0 where
+  pub effect_is : effect ≡ r.effect
+  pub hart_is : with_registers (with_write (fixed_in t.log.present (late_of t d)) effect.rd) next ≡ r.hart
+  pub held : TellsMore (with_write (fixed_in t.log.present (late_of t d)) effect.rd) next.x
+  pub number : next.number ≡ t.hart.number
 
--- none is left, and the hart makes its ending step
-pub end_turns : (work : Work) (t : TaskSeen) (heard : Heard) (d : Decoded) (rd : Option (ℕ × ℕ)) (next : Hart)
-    → drop t.begun (script work t.hart.number) ≡ [] → Going work (in_phase t tasks.Between) end_word d rd next
-    → turned work (state_of work (in_phase t tasks.Between)) heard
-    ≡ Some (record { act = stepping is_last None (late_of t d) t.hart end_word rd; state = record (behind_step work t end_word d rd next) { phase = at_end } })
-end_turns work t heard d rd next none g =
-    let s : HartState = record (state_of work (in_phase t tasks.Between)) { left = [] } in
-    let makes : MakesAt work s (length t.log.words) = record { plain = g.makes.plain; few = g.makes.few; short = g.makes.short; free = g.makes.free; pc = g.makes.pc; mode = g.makes.mode } in
-    rw none (rw (made_is work s heard (length t.log.words) end_word d t.hart.x rd next makes g.fits g.row g.quiet g.held g.does) refl)
+pub same_step : (work : Work) (t : TaskSeen) (h made word : ℕ) (d : Decoded) (effect : Effect) (next : Hart) → IsMember work h → made ≤ 1000 → IsInWindow h made (state_of work t)
+    → IsQuietWord word (Some d) → TellsMore t.log.present t.hart.x
+    → step (word_seen t.hart.pc word) (fixed_task t (late_of t d)).hart ≡ Some (record { effect = effect; hart = next })
+    → IsSame t d (stepped_so (state_of work t) word (Some d)) effect next
+same_step work t h made word d effect next is few at quiet held does = record {
+  effect_is = effect_is;
+  hart_is = ap (with_registers (with_write part effect.rd)) next_is ∙ (λ i. with_registers (registers i) r.hart);
+  held = subst (TellsMore (with_write part effect.rd)) (sym (ap (λ (q : Hart). q.x) next_is ∙ ap (λ (e : Effect). with_write full e.rd) (sym effect_is))) (more_written part full effect.rd more);
+  number = ap (λ (q : Hart). q.number) next_is ∙ leaves.number;
+}
+  where
+    s : HartState
+    s = state_of work t
+
+    r : Stepped
+    r = stepped_so s word (Some d)
+
+    part : Registers
+    part = fixed_in t.log.present (late_of t d)
+
+    full : Registers
+    full = fixed_in t.hart.x (late_of t d)
+
+    more : TellsMore part full
+    more = tells_fixed t.log.present t.hart.x (late_of t d) held
+
+    leaves : StepLeaves (fixed_hart s (Some d)) r
+    leaves = leaves_so work h made s word (Some d) is few at quiet
+
+    same : record { effect = effect; hart = next } ≡ from_registers full r
+    same = same_Some _ _ (sym does ∙ more_told (word_seen t.hart.pc word) (word_seen t.hart.pc word) (itself (word_seen t.hart.pc word)) full (fixed_hart s (Some d)) more r (steps_so work h made s word (Some d) is few at quiet))
+
+    effect_is : effect ≡ r.effect
+    effect_is = ap (λ (q : Stepped). q.effect) same
+
+    next_is : next ≡ with_registers (with_write full r.effect.rd) r.hart
+    next_is = ap (λ (q : Stepped). q.hart) same
+
+    registers : with_write part effect.rd ≡ r.hart.x
+    registers = ap (λ (e : Effect). with_write part e.rd) effect_is ∙ sym leaves.registers
 
 -- ---- the state is that of the task
 
--- what a step of a word leaves of the hart, but for pc
-pub record Leads (t : TaskSeen) (d : Decoded) (rd : Option (ℕ × ℕ)) (next : Hart) : Type 0 where
-  pub number : next.number ≡ t.hart.number
-  pub mode : next.mode ≡ M
-  pub registers : next.x ≡ with_write (fixed_in t.hart.x (late_of t d)) rd
-  pub zero : with_write (fixed_in t.log.present (late_of t d)) rd 0 ≡ fixed_in t.log.present (late_of t d) 0
-
-length_more : (ws : List ℕ) (w : ℕ) → length (ws ++ w ∷ []) ≡ length ws + 1
+pub length_more : (ws : List ℕ) (w : ℕ) → length (ws ++ w ∷ []) ≡ length ws + 1
 length_more ws w = length-append ws (w ∷ [])
 
-pub state_behind : (work : Work) (t : TaskSeen) (word place : ℕ) (d : Decoded) (rd : Option (ℕ × ℕ)) (next : Hart) (lines : List Line) (phase : task.Phase)
-    → MakesAt work (state_of work t) (length t.log.words) → next.number ≡ t.hart.number
-    → record (behind_step work t word d rd next) { phase = phase_seen phase }
-    ≡ state_of work (record (stepped_task t word (late_of t d) lines place (plain_effect t.hart word rd) next) { phase = phase })
-state_behind work t word place d rd next lines phase makes number = λ i. record {
-  hart = with_registers (with_write (fixed_in t.log.present (late_of t d)) rd) next;
-  picks = record { seed = t.draws.seed; stream = 2 * sym number i; drawn = 0 };
+-- the task behind a step
+abbrev pub task_behind : TaskSeen → ℕ → Decoded → List Line → ℕ → Effect → Hart → task.Phase → TaskSeen
+task_behind t word d lines place effect next phase = in_phase (stepped_task t word (late_of t d) lines place effect next) phase
+
+pub state_behind : (work : Work) (t : TaskSeen) (word place : ℕ) (d : Decoded) (effect : Effect) (next : Hart) (lines : List Line) (phase : task.Phase)
+    → index_of work (state_of work t) ≡ length t.log.words → IsSame t d (stepped_so (state_of work t) word (Some d)) effect next
+    → record (behind_word work (state_of work t) word (Some d)) { phase = phase_seen phase } ≡ state_of work (task_behind t word d lines place effect next phase)
+state_behind work t word place d effect next lines phase index same = λ i. record {
+  hart = sym same.hart_is i;
+  picks = record { seed = t.draws.seed; stream = 2 * sym same.number i; drawn = 0 };
   draws = drawn i;
-  words = λ index. (ap (λ p. updated (λ k. slice_get t.log.words k) p (Some word) index) (index_is work (state_of work t) (length t.log.words) makes) ∙ words_after t.log.words word index) i;
-  entries = entries_at_first work (plan_of work (sym number i)).space;
-  left = drop t.begun (script work (sym number i));
+  words = λ k. (ap (λ p. updated (λ j. slice_get t.log.words j) p (Some word) k) index ∙ words_after t.log.words word k) i;
+  entries = entries_at_first work (plan_of work (sym same.number i)).space;
+  left = drop t.begun (script work (sym same.number i));
   count = t.begun;
   steps = sym (length_more t.log.words word) i;
   loop = None;
@@ -193,26 +205,26 @@ few_fixed t d is =
 
 -- ---- behind a step
 
-abbrev pub task_behind : TaskSeen → ℕ → Decoded → List Line → ℕ → Option (ℕ × ℕ) → Hart → task.Phase → TaskSeen
-task_behind t word d lines place rd next phase = in_phase (stepped_task t word (late_of t d) lines place (plain_effect t.hart word rd) next) phase
+-- where the hart stands then
+pub record Places (t new : TaskSeen) : Type 0 where
+  pub zero : new.log.present 0 ≡ Some 0
+  pub mode : new.hart.mode ≡ M
+  pub place : new.hart.pc ≡ code_address t.hart.number (index_at new.phase (length new.log.words))
 
--- the present value of x0 is 0
-zero_stays : (t : TaskSeen) (d : Decoded) → t.log.present 0 ≡ Some 0 → fixed_in t.log.present (late_of t d) 0 ≡ Some 0
-zero_stays t d is = value_kept t.log.present t.log.present (late_of t d) 0 0 (each_late t.log.present t.draws (sources d)) is is
-
-pub stands_behind : (work : Work) (t : TaskSeen) (word place : ℕ) (d : Decoded) (rd : Option (ℕ × ℕ)) (next : Hart) (a : Act) (lines rest : List Line) (phase : task.Phase)
-    → Stands work t → rs1_read d ≡ d.ops.rs1 → Leads t d rd next
-    → ((heard : Heard) → turned work (state_of work t) heard ≡ Some (record { act = a; state = state_of work (task_behind t word d lines place rd next phase) }))
+pub stands_behind : (work : Work) (t : TaskSeen) (word place : ℕ) (d : Decoded) (effect : Effect) (next : Hart) (a : Act) (lines rest : List Line) (phase : task.Phase)
+    → Stands work t → rs1_read d ≡ d.ops.rs1 → IsSame t d (stepped_so (state_of work t) word (Some d)) effect next
+    → ((heard : Heard) → turned work (state_of work t) heard ≡ Some (record { act = a; state = state_of work (task_behind t word d lines place effect next phase) }))
     → task_event t.hart.number lines ≡ event_of work t.hart.number a
     → lines ≡ fixing_lines t.hart.number (late_of t d) ++ rest → ((r : ℕ) → starting rest t.hart.number r ≡ None)
-    → next.pc ≡ code_address t.hart.number (index_at phase (length t.log.words + 1))
+    → Places t (task_behind t word d lines place effect next phase)
     → length t.log.words + 1 ≡ words_made phase t.begun → IsMaking phase t.begun
-    → Stands work (task_behind t word d lines place rd next phase)
-stands_behind work t word place d rd next a lines rest phase st is leads turns event lines_are quiet pc words making =
+    → Stands work (task_behind t word d lines place effect next phase)
+stands_behind work t word place d effect next a lines rest phase st is same turns event lines_are quiet stays words making =
     let h : ℕ = t.hart.number in
     let e : Event = task_event h lines in
     let placed : List Placed = t.log.events ++ record { place = place; event = e } ∷ [] in
-    let run = run_more work t place e a (state_of work (task_behind t word d lines place rd next phase)) st.run (turns (heard_of e)) event in
+    let behind : TaskSeen = task_behind t word d lines place effect next phase in
+    let run = run_more work t place e a (state_of work behind) st.run (turns (heard_of e)) event in
     let fixed = fixed_all t (all_lines (events_of t.log.events)) d h is (record { fresh = st.fresh; initial = st.initial }) in
     let same_lines : all_lines (events_of placed) ≡ (all_lines (events_of t.log.events) ++ fixing_lines h (late_of t d)) ++ rest =
     lines_more t.log.events (record { place = place; event = e }) ∙ ap (λ ls. all_lines (events_of t.log.events) ++ ls) lines_are
@@ -221,19 +233,18 @@ stands_behind work t word place d rd next a lines rest phase st is leads turns e
     λ r. fixed.initial r ∙ sym (starting_kept (all_lines (events_of t.log.events) ++ fixing_lines h (late_of t d)) rest h r (quiet r)) ∙ ap (λ ls. starting ls h r) (sym same_lines) in
     let count = length_more t.log.words word in
     record {
-      run = subst (λ n. RunsTo work t.draws.seed n (events_of placed) (state_of work (task_behind t word d lines place rd next phase))) (sym leads.number) run;
-      member = subst (λ n. n < hart_count work) (sym leads.number) st.member;
-      held = subst (TellsMore (with_write (fixed_in t.log.present (late_of t d)) rd)) (sym leads.registers)
-          (more_written (fixed_in t.log.present (late_of t d)) (fixed_in t.hart.x (late_of t d)) rd (tells_fixed t.log.present t.hart.x (late_of t d) st.held));
-      zero = leads.zero ∙ zero_stays t d st.zero;
-      mode = leads.mode;
-      place = pc ∙ ap (λ n. code_address t.hart.number (index_at phase n)) (sym count) ∙ ap (λ n. code_address n (index_at phase (length (t.log.words ++ word ∷ [])))) (sym leads.number);
-      fresh = λ r none. fixed.fresh r (none_before (fixed_in t.log.present (late_of t d)) rd r none);
-      initial = λ r. initial r ∙ ap (λ n. starting (all_lines (events_of placed)) n r) (sym leads.number);
-      stream = st.stream ∙ ap (λ n. 2 * n + 1) (sym leads.number);
+      run = subst (λ n. RunsTo work t.draws.seed n (events_of placed) (state_of work behind)) (sym same.number) run;
+      member = subst (λ n. n < hart_count work) (sym same.number) st.member;
+      held = same.held;
+      zero = stays.zero;
+      mode = stays.mode;
+      place = stays.place ∙ ap (λ n. code_address n (index_at phase (length (t.log.words ++ word ∷ [])))) (sym same.number);
+      fresh = λ r none. fixed.fresh r (none_before (fixed_in t.log.present (late_of t d)) effect.rd r none);
+      initial = λ r. initial r ∙ ap (λ n. starting (all_lines (events_of placed)) n r) (sym same.number);
+      stream = st.stream ∙ ap (λ n. 2 * n + 1) (sym same.number);
       few = omega (arith, st.few, count, few_fixed t d is);
       words = count ∙ words;
       events = let more = length-append t.log.events (record { place = place; event = e } ∷ []) in omega (arith, more, count, st.events);
       making = making;
-      many = subst (λ n. t.begun ≤ length (script work n)) (sym leads.number) st.many;
+      many = subst (λ n. t.begun ≤ length (script work n)) (sym same.number) st.many;
     }

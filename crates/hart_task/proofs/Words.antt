@@ -22,7 +22,7 @@ use Rattle.hart_task.specs.OneRun.{RunsTo, all_lines}
 use Rattle.hart_task.specs.State.{HartState, index_of, start}
 use Rattle.hart_task.specs.Stepping.{fixed_in, StepTaken, seen_of}
 use Rattle.hart_task.specs.Turn.{acted, acts, with_word}
-use Rattle.hart_task.proofs.Blocked.{did}
+use Rattle.hart_task.proofs.Led.{did}
 use Rattle.hart_task.proofs.Lined.{answers_effects, begins_effects, refuses_effects, told_silent, touched_lines}
 use Rattle.hart_task.proofs.Made.{Made, Taken, late_for, made_was, number_after, taken}
 use Rattle.hart_task.proofs.Viewed.{From, View, same_number, turned_view}

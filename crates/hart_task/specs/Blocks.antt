@@ -1,9 +1,11 @@
 -- What a reader wants to know of a hart's lines: each request has one block, in the template's order. It is done, and then the
 -- block meets it, or it is refused, and then the cause holds.
-use Rattle.std.specs.Prelude.{ℕ, ◌≡◌, ◌+◌, ◌<◌, List, [], ◌∷◌, ◌++◌, length, Option, Some, None, IfSome}
+use Rattle.std.specs.Prelude.{ℕ, ◌≡◌, ◌+◌, ◌<◌, pos, true, List, [], ◌∷◌, ◌++◌, length, Option, Some, None, IfSome}
 use Rattle.std.specs.List.{AllByRecursion, filter_map}
+use Rattle.rv_fields.specs.declared.csr.Csr.{Csr}
 use Rattle.rv_fields.specs.declared.row_table.Ins.{Ins}
 use Rattle.rv_fields.specs.Attempt.{◌>>=◌}
+use Rattle.rv_fields.specs.Csr.{csr_number}
 use Rattle.rv_fields.specs.Decode.{Decoded, decoded}
 use Rattle.rv_fields.specs.Effect.{Effect}
 use Rattle.region_plan.specs.Plan.{Work}
@@ -23,6 +25,7 @@ pub record IsPinned (wanted : Ins) (pins : Pins) (d : Decoded) : Type 0 where
   pub ins : d.ins ≡ wanted
   pub rd : IfSome pins.rd (λ r. d.ops.rd ≡ r)
   pub rs1 : IfSome pins.rs1 (λ r. d.ops.rs1 ≡ r)
+  pub zero_rs1 : pins.zero_rs1 ≡ true → d.ops.rs1 ≡ 0
   pub rs2 : IfSome pins.rs2 (λ r. d.ops.rs2 ≡ r)
   pub imm : IfSome pins.imm (λ i. d.ops.imm ≡ i)
 
@@ -39,12 +42,16 @@ abbrev pub MeetsIns : InsChoice → Pins → List Effect → Type 0
 MeetsIns (named_ins ins) pins effects = IsStepOf ins pins effects
 MeetsIns (by_tree tree) pins effects = ⊥
 
+-- the number of a CSR stands in the immediate's place
+abbrev pub csr_pins : Csr → Pins → Pins
+csr_pins csr pins = record pins { imm = Some (pos (csr_number csr)) }
+
 -- The steps of a block are what its request asks for. No job asks for the others yet.
 abbrev pub MeetsPlain : Plain → List Effect → Type 0
 MeetsPlain (an_ins ins pins) effects = MeetsIns ins pins effects
 MeetsPlain (a_mem r) effects = ⊥
 MeetsPlain (a_jump r) effects = ⊥
-MeetsPlain (a_csr csr ins pins) effects = ⊥
+MeetsPlain (a_csr csr ins pins) effects = IsStepOf ins (csr_pins csr pins) effects
 MeetsPlain (a_sys sys) effects = ⊥
 MeetsPlain (a_value value pins) effects = ⊥
 

@@ -1,9 +1,7 @@
 -- A hart's task: the state of its hart's machine at which it stands, and what a turn makes of it.
-use Rattle.std.specs.Prelude.{Bool, true, false, ℕ, ◌≡◌, ◌+◌, ◌-◌, ◌*◌, ◌^◌, ◌<◌, ◌≤◌, List, [], ◌∷◌, ◌++◌, drop, filter, is_none, length, Option, Some, None, slice_get}
+use Rattle.std.specs.Prelude.{Bool, true, false, ℕ, ◌≡◌, ◌+◌, ◌-◌, ◌*◌, ◌<◌, ◌≤◌, List, [], ◌∷◌, ◌++◌, drop, filter, is_none, length, Option, Some, None, slice_get}
 use Rattle.std.specs.List.{AllByRecursion}
-use Rattle.rv_fields.specs.declared.class.Class.TheVariants.{Computes}
 use Rattle.rv_fields.specs.declared.mode.Mode.TheVariants.{M}
-use Rattle.rv_fields.specs.Class.{class_of}
 use Rattle.rv_fields.specs.Decode.{Decoded, decoded, rs1_read, sources}
 use Rattle.rv_fields.specs.Effect.{Effect}
 use Rattle.rv_fields.specs.Hart.{Hart}
@@ -12,8 +10,10 @@ use Rattle.rv_fields.specs.Step.{step, with_write}
 use Rattle.rv_step.specs.Views.{hart_seen}
 use Rattle.choice_tree.specs.Draws.{Draws, skipped}
 use Rattle.region_plan.specs.Plan.{Work, hart_count, plan_of}
-use Rattle.region_plan.specs.Request.{Quiet}
+use Rattle.region_plan.specs.Rules.{IsMakeableRequest}
 use Rattle.region_plan.specs.Script.{ScriptItem, script_of}
+use Rattle.region_plan.specs.Views.{request_seen}
+use Rattle.region_plan.specs.declared.request.Request as code
 use Rattle.trace_text.specs.Lines.{Line, starting, done}
 use Rattle.trace_text.specs.Traces.{KeepsRanges}
 use Rattle.boot_words.specs.Layout.{code_address}
@@ -24,6 +24,7 @@ use Rattle.hart_task.specs.declared.task.HartTask.{HartTask}
 use Rattle.hart_task.specs.declared.task.Phase as task
 use Rattle.hart_task.specs.declared.task.Phase.TheVariants as tasks
 use Rattle.hart_task.specs.Acts.{Fixing, fixing_lines, is_last, is_made, step_line}
+use Rattle.hart_task.specs.Asking.{demand_asked, word_asked}
 use Rattle.hart_task.specs.Bus.{word_seen}
 use Rattle.hart_task.specs.Log.{LogSeen, events_of, log_seen}
 use Rattle.hart_task.specs.OneRun.{IsFinishedRun, RunsTo, all_lines}
@@ -46,7 +47,7 @@ task_seen t = record { hart = hart_seen t.hart; phase = t.phase; begun = t.begun
 
 abbrev pub phase_seen : task.Phase → Phase
 phase_seen tasks.Between = between
-phase_seen (tasks.Making m) = making (record { k = m.k; words = m.word ∷ []; sequel = is_done (Some Quiet) })
+phase_seen (tasks.Making m) = making (record { k = m.k; words = word_asked m.request ∷ []; sequel = is_done (demand_asked m.request) })
 phase_seen tasks.Finished = at_end
 
 -- the requests of a hart, in their order
@@ -77,10 +78,10 @@ words_made tasks.Finished begun = begun + 1
 abbrev pub IsRowOf : ℕ → Decoded → Type 0
 IsRowOf word d = (decoded word ≡ Some d) × (rs1_read d ≡ d.ops.rs1)
 
--- the request that makes its word is the last that has begun, and its word computes a value
+-- the request that makes its word is the last that has begun
 abbrev pub IsMaking : task.Phase → ℕ → Type 0
 IsMaking tasks.Between begun = Unit {0}
-IsMaking (tasks.Making m) begun = (m.k + 1 ≡ begun) × (m.word < 2 ^ 32) × ((d : Decoded) × IsRowOf m.word d × (class_of d.ins ≡ Computes))
+IsMaking (tasks.Making m) begun = (m.k + 1 ≡ begun) × IsMakeableRequest (request_seen m.request)
 IsMaking tasks.Finished begun = Unit {0}
 
 -- the word at which pc stands, counted from the window's first
@@ -171,10 +172,10 @@ task_event h lines = record { hart = h; parts = no_parts; asked = nothing_asked;
 abbrev pub with_event : LogSeen → ℕ → Event → LogSeen
 with_event log place event = record log { events = log.events ++ record { place = place; event = event } ∷ [] }
 
--- the next request begins, whose word this is
-abbrev pub begun_task : TaskSeen → ℕ → ℕ → List Line → TaskSeen
-begun_task t word place lines = record t {
-  phase = tasks.Making (record { k = t.begun; word = word });
+-- the next request begins
+abbrev pub begun_task : TaskSeen → code.Request → ℕ → List Line → TaskSeen
+begun_task t request place lines = record t {
+  phase = tasks.Making (record { k = t.begun; request = request });
   begun = t.begun + 1;
   log = with_event t.log place (task_event t.hart.number lines);
 }

@@ -6,7 +6,7 @@ ghost use Rattle.region_plan.specs.Views.{request_seen};
 ghost use Rattle.trace_text.specs.Traces.{IsStep};
 ghost use Rattle.trace_text.specs.Views.{step_seen};
 ghost use Rattle.rv_step.specs.Views.{hart_seen};
-ghost use Rattle.hart_task.specs.Asking.{ins_of, ops_asked, word_asked};
+ghost use Rattle.hart_task.specs.Asking.{ins_asked, ins_of, ops_asked, word_asked};
 ghost use Rattle.hart_task.specs.Bus.{word_seen};
 ghost use Rattle.hart_task.specs.Plain.{StepsPlainly};
 
@@ -22,8 +22,16 @@ use trace_text::StepLine;
 fn ins_of(request: Request) -> Ins
     ensures { result ≡ ins_of request }
 {
-    let Request::Ins { ins, .. } = request;
-    let InsChoice::Named(ins) = ins;
+    match request {
+        Request::Ins { ins, .. } => named(ins),
+        Request::Csr { ins, .. } => ins,
+    }
+}
+
+fn named(choice: InsChoice) -> Ins
+    ensures { result ≡ ins_asked choice }
+{
+    let InsChoice::Named(ins) = choice;
     ins
 }
 
@@ -31,8 +39,10 @@ fn ins_of(request: Request) -> Ins
 fn ops_of(request: Request) -> Ops
     ensures { result ≡ ops_asked request }
 {
-    let Request::Ins { pins, .. } = request;
-    pins.ops()
+    match request {
+        Request::Ins { pins, .. } => pins.ops(),
+        Request::Csr { csr, pins, .. } => pins.csr_ops(csr),
+    }
 }
 
 /// The word that the request makes.

@@ -41,7 +41,7 @@ const MOST_LINES: usize = 4;
 pub struct Making {
     /// The number of the request.
     pub k: u32,
-    pub word: u32,
+    pub request: Request,
 }
 
 /// How far a hart is with its requests.
@@ -166,14 +166,13 @@ impl HartTask {
         request: Request,
         world: &mut W,
     ) -> Result<u64, NoMemory>
-        requires makeable { IsMakeableRequest (request_seen request) }
         requires room { 0 < W.room world.old }
         requires count { self.old.begun < most_requests }
         ensures task { IfOk result (λ place. task_seen self.new
-            ≡ begun_task (task_seen self.old) (word_asked request) place (told.request self.old.hart.number self.old.begun Kind.Ins ∷ [])) }
-        ensures commits { IfOk result (λ place. Commits place (task_event self.old.hart.number (told.request self.old.hart.number self.old.begun Kind.Ins ∷ []))
+            ≡ begun_task (task_seen self.old) request place (told.request self.old.hart.number self.old.begun (request_kind (request_seen request)) ∷ [])) }
+        ensures commits { IfOk result (λ place. Commits place (task_event self.old.hart.number (told.request self.old.hart.number self.old.begun (request_kind (request_seen request)) ∷ []))
             (W.stands world.old) (W.stands world.new)) }
-        ensures ranges { KeepsRanges (told.request self.old.hart.number self.old.begun Kind.Ins) }
+        ensures ranges { KeepsRanges (told.request self.old.hart.number self.old.begun (request_kind (request_seen request))) }
         ensures room { IfOk result (λ place. W.room world.new + 1 ≡ W.room world.old) }
         ensures unchanged { OnErr result (task_seen self.new ≡ task_seen self.old) }
         ensures quiet { OnErr result (world.new ≡ world.old) }
@@ -188,7 +187,7 @@ impl HartTask {
         let place = self.commit(event, world);
         self.phase = Phase::Making(Making {
             k: self.begun,
-            word: word_of(request),
+            request,
         });
         self.begun += 1;
         Ok(place)
@@ -201,19 +200,20 @@ impl HartTask {
         making: Making,
         world: &mut W,
     ) -> Result<u64, NoMemory>
-        requires row { (d : Decoded) × IsRowOf making.word d }
-        requires plain { IsPlainFor (hart_seen self.old.hart) making.word }
+        requires makeable { IsMakeableRequest (request_seen making.request) }
+        requires row { (d : Decoded) × IsRowOf (word_asked making.request) d }
+        requires plain { IsPlainFor (hart_seen self.old.hart) (word_asked making.request) }
         requires zero { slice_index self.old.hart.x 0 ≡ 0 }
         requires in_ram { IsTrue (in_ram self.old.hart.pc 4) }
         requires few { self.old.draws.drawn ≤ 2002 }
         requires room { 0 < W.room world.old }
-        ensures steps { IfOk result (λ place. Steps making.word (Some making.k) (task_seen self.old) (record (task_seen self.new) { phase = self.old.phase }) place (W.stands world.old) (W.stands world.new)) }
+        ensures steps { IfOk result (λ place. Steps (word_asked making.request) (Some making.k) (task_seen self.old) (record (task_seen self.new) { phase = self.old.phase }) place (W.stands world.old) (W.stands world.new)) }
         ensures phase { IfOk result (λ place. self.new.phase ≡ Phase.Between) }
         ensures room { IfOk result (λ place. W.room world.new + 1 ≡ W.room world.old) }
         ensures unchanged { OnErr result (task_seen self.new ≡ task_seen self.old) }
         ensures quiet { OnErr result (world.new ≡ world.old) }
     {
-        let place = self.step(alloc, making.word, Some(making.k), world)?;
+        let place = self.step(alloc, word_of(making.request), Some(making.k), world)?;
         self.phase = Phase::Between;
         Ok(place)
     }
@@ -366,5 +366,6 @@ fn kind_of(request: Request) -> Kind
 {
     match request {
         Request::Ins { .. } => Kind::Ins,
+        Request::Csr { .. } => Kind::Csr,
     }
 }

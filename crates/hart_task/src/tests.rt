@@ -58,6 +58,7 @@ fn addi(rd: u8, imm: i64) -> Item
             rs1: Some(0),
             rs2: None,
             imm: Some(imm),
+            zero_rs1: false,
         },
     })
 }
@@ -74,6 +75,7 @@ fn add(rd: u8, rs1: u8, rs2: u8) -> Item
             rs1: Some(rs1),
             rs2: Some(rs2),
             imm: None,
+            zero_rs1: false,
         },
     })
 }

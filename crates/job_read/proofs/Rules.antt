@@ -1,13 +1,13 @@
 -- A job that is accepted keeps the rules.
-use Rattle.std.proofs.Common.{ℕ, suc, codes, ◌≡◌, ◌<◌, ◌≤◌, Bool, true, false, cond, inl, inr, List, [], ◌∷◌, length, Some, None, Result, Ok, Err, refl, ap, subst, arith}
+use Rattle.std.proofs.Common.{suc, codes, ◌≡◌, ◌≤◌, Bool, false, List, [], ◌∷◌, length, Option, Some, None, Result, Ok, Err, refl, ap, subst, arith}
 use Rattle.std.specs.Prelude.{IfOk}
 use Rattle.std.specs.List.{AllByRecursion}
-use Rattle.std.proofs.lemmas.Bool.{and_parts, ltb-true, leb-true}
+use Rattle.std.proofs.lemmas.Bool.{and_parts, leb-true}
 use Rattle.std.proofs.lemmas.Option.{cond_some, same_Some}
-use Rattle.std.specs.Str.{bytes_eq}
 use Rattle.serde_json.specs.Data.{Data, Members, Items as Values, no_items as no_values, item}
 use Rattle.serde_json.specs.Events.{items_len}
 use Rattle.serde_json.specs.Find.{as_array, as_object, get_member}
+use Rattle.rv_fields.specs.Csr.{csr_called}
 use Rattle.rv_fields.specs.Play.{most_harts}
 use Rattle.rv_fields.specs.RowTable.{ins_called}
 use Rattle.rv_fields.proofs.Options.{found}
@@ -21,27 +21,46 @@ use Rattle.region_plan.specs.Views.{work_of, work_with}
 use Rattle.json_keys.specs.declared.input.InputFault.{InputFault}
 use Rattle.json_keys.specs.Input.{ReadsAs}
 use Rattle.json_keys.specs.Json.{integer, object_of, natural_at, text_at}
-use Rattle.job_read.specs.Accepted.{given_by, pins_of, register, request_of, items_of, template_at, accepted_hart, harts_of, harts_at, job_of}
+use Rattle.job_read.specs.Accepted.{csr_request, given_by, ins_request, pins_of, register, request_by, request_of, way_called, items_of, template_at, accepted_hart, harts_of, harts_at, job_of}
 
 -- the operands that are read are all that an item has
-pins_alone : (members : Members) (pins : Pins) → pins_of members ≡ Some pins → pins ≡ bare_pins pins.rd pins.rs1 pins.rs2 pins.imm
-pins_alone members pins e =
+pins_alone : (zero_rs1 : Bool) (members : Members) (pins : Pins) → pins_of zero_rs1 members ≡ Some pins
+    → pins ≡ bare_pins pins.rd pins.rs1 pins.rs2 pins.imm pins.zero_rs1
+pins_alone zero_rs1 members pins e =
     let rd = found (given_by register (get_member (codes "rd") members)) _ pins e in
     let rs1 = found (given_by register (get_member (codes "rs1") members)) _ pins rd.2 in
     let rs2 = found (given_by register (get_member (codes "rs2") members)) _ pins rs1.2 in
     let imm = found (given_by integer (get_member (codes "imm") members)) _ pins rs2.2 in
-    let is_pins : bare_pins rd.0 rs1.0 rs2.0 imm.0 ≡ pins = same_Some _ _ imm.2 in
-    subst (λ (p : Pins). p ≡ bare_pins p.rd p.rs1 p.rs2 p.imm) is_pins refl
+    let is_pins : bare_pins rd.0 rs1.0 rs2.0 imm.0 zero_rs1 ≡ pins = same_Some _ _ imm.2 in
+    subst (λ (p : Pins). p ≡ bare_pins p.rd p.rs1 p.rs2 p.imm p.zero_rs1) is_pins refl
 
 -- a request that is accepted can be made
+ins_makeable : (members : Members) (request : Request) → ins_request members ≡ Some request → IsMakeableRequest request
+ins_makeable members request e =
+    let name = found (text_at (codes "ins") members) _ request e in
+    let ins = found (ins_called name.0) _ request name.2 in
+    let pins = found (pins_of false members) _ request ins.2 in
+    let passed = cond_some _ _ request pins.2 in
+    subst IsMakeableRequest passed.1 (record { whole = (and_parts _ _ passed.0).1; alone = pins_alone false members pins.0 pins.1 })
+
+csr_makeable : (members : Members) (request : Request) → csr_request members ≡ Some request → IsMakeableRequest request
+csr_makeable members request e =
+    let name = found (text_at (codes "csr") members) _ request e in
+    let csr = found (csr_called name.0) _ request name.2 in
+    let op = found (text_at (codes "op") members) _ request csr.2 in
+    let way = found (way_called op.0) _ request op.2 in
+    let pins = found (pins_of way.0.zero_rs1 members) _ request way.2 in
+    let passed = cond_some _ _ request pins.2 in
+    subst IsMakeableRequest passed.1 (record { whole = (and_parts _ _ passed.0).1; alone = pins_alone way.0.zero_rs1 members pins.0 pins.1 })
+
+makeable_by : (leading : Option Data) (members : Members) (request : Request) → request_by leading members ≡ Some request → IsMakeableRequest request
+makeable_by (Some ins) members request e = ins_makeable members request e
+makeable_by None members request e = csr_makeable members request e
+
 request_makeable : (value : Data) (request : Request) → request_of value ≡ Some request → IsMakeableRequest request
 request_makeable value request e =
     let members = found (as_object value) _ request e in
-    let name = found (text_at (codes "ins") members.0) _ request members.2 in
-    let ins = found (ins_called name.0) _ request name.2 in
-    let pins = found (pins_of members.0) _ request ins.2 in
-    let passed = cond_some _ _ request pins.2 in
-    subst IsMakeableRequest passed.1 (record { whole = (and_parts _ _ passed.0).1; alone = pins_alone members.0 pins.0 pins.1 })
+    makeable_by (get_member (codes "ins") members.0) members.0 request members.2
 
 -- accepted items can be made, and are as many as their values
 items_makeable : (values : Values) (items : Items) → items_of values ≡ Some items

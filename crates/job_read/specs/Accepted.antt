@@ -1,18 +1,22 @@
 -- The jobs that are accepted, as the JSON values that they are.
-use Rattle.std.specs.Prelude.{ℕ, ◌+◌, List, [], ◌∷◌, codes, nat_lt, nat_le, ◌==◌, ◌&&◌, Option, Some, None, if◌then◌else◌}
+use Rattle.std.specs.Prelude.{ℕ, ◌+◌, Bool, true, false, List, [], ◌∷◌, codes, nat_lt, nat_le, ◌==◌, ◌&&◌, Option, Some, None, option_map, if◌then◌else◌}
 use Rattle.std.specs.Str.{bytes_eq}
 use Rattle.serde_json.specs.Data.{Data, Members, Items as Values, no_items as no_values, item}
 use Rattle.serde_json.specs.Events.{items_len, members_len}
 use Rattle.serde_json.specs.Find.{as_array, as_object, get_member}
+use Rattle.rv_fields.specs.declared.csr.Csr.{Csr}
 use Rattle.rv_fields.specs.declared.row_table.Ins.{Ins}
+use Rattle.rv_fields.specs.declared.row_table.Ins.TheVariants.{Csrrs}
 use Rattle.rv_fields.specs.Attempt.{◌>>=◌}
+use Rattle.rv_fields.specs.Csr.{csr_called}
 use Rattle.rv_fields.specs.Play.{most_harts}
 use Rattle.rv_fields.specs.RowTable.{ins_called}
-use Rattle.region_plan.specs.Pinned.{bare_pins, is_fully_pinned}
+use Rattle.region_plan.specs.Pinned.{bare_pins, is_csr_pinned, is_fully_pinned}
 use Rattle.region_plan.specs.Plan.{HartPlan, Work, no_hart, plain_code_pages}
-use Rattle.region_plan.specs.Request.{Items, Pins, Request, a_plain, an_ins, named_ins, no_items, one}
+use Rattle.region_plan.specs.Request.{Items, Pins, Request, a_csr, a_plain, an_ins, named_ins, no_items, one}
 use Rattle.region_plan.specs.Rules.{most_requests}
 use Rattle.region_plan.specs.Views.{work_with}
+use Rattle.job_read.specs.declared.requests.CsrWay.{CsrWay}
 use Rattle.json_keys.specs.Json.{document, integer, natural, natural_at, object_of, text_at}
 
 -- a register: a number below 32
@@ -28,36 +32,72 @@ given_by read (Some value) = do
   operand ← read value
   Some (Some operand)
 
--- the operands of an item, each at its key
-abbrev pub pins_of : Members → Option Pins
-pins_of members = do
+-- the operands of an item, each at its key; whether rs1 is the fixed 0 of a read is handed in
+abbrev pub pins_of : Bool → Members → Option Pins
+pins_of zero_rs1 members = do
   rd ← given_by register (get_member (codes "rd") members)
   rs1 ← given_by register (get_member (codes "rs1") members)
   rs2 ← given_by register (get_member (codes "rs2") members)
   imm ← given_by integer (get_member (codes "imm") members)
-  Some (bare_pins rd rs1 rs2 imm)
+  Some (bare_pins rd rs1 rs2 imm zero_rs1)
 
 abbrev pub one_if_given : {A : Type 0} → Option A → ℕ
 one_if_given None = 0
 one_if_given (Some operand) = 1
 
--- how many keys an item with these operands has: the leading one, and one for each
+-- how many keys give these operands
 abbrev pub key_count : Pins → ℕ
-key_count pins = 1 + one_if_given pins.rd + one_if_given pins.rs1 + one_if_given pins.rs2 + one_if_given pins.imm
+key_count pins = one_if_given pins.rd + one_if_given pins.rs1 + one_if_given pins.rs2 + one_if_given pins.imm
 
--- the request of an item with so many keys: an instruction that computes a value, with all the operands of its form, and no more
-abbrev pub request_for : Ins → Pins → ℕ → Option Request
-request_for ins pins keys =
-    if (keys == key_count pins) && is_fully_pinned ins pins then Some (a_plain (an_ins (named_ins ins) pins)) else None
+-- ---- instructions
+
+-- the request of an item with so many keys: all the operands of an instruction, and no more
+abbrev pub ins_request_for : Ins → Pins → ℕ → Option Request
+ins_request_for ins pins keys =
+    if (keys == 1 + key_count pins) && is_fully_pinned ins pins then Some (a_plain (an_ins (named_ins ins) pins)) else None
 
 -- {"ins":NAME, ..}
+abbrev pub ins_request : Members → Option Request
+ins_request members = do
+  name ← text_at (codes "ins") members
+  ins ← ins_called name
+  pins ← pins_of false members
+  ins_request_for ins pins (members_len members)
+
+-- ---- instructions on CSRs
+
+-- what is done with a CSR: a read sets no bits
+abbrev pub way_called : List ℕ → Option CsrWay
+way_called name =
+    if bytes_eq name (codes "read") then Some (record { ins = Csrrs; zero_rs1 = true })
+    else option_map (λ ins. record { ins = ins; zero_rs1 = false }) (ins_called name)
+
+-- the request of an item with so many keys: all the operands of an instruction on a CSR, and no more
+abbrev pub csr_request_for : Csr → Ins → Pins → ℕ → Option Request
+csr_request_for csr ins pins keys =
+    if (keys == 2 + key_count pins) && is_csr_pinned csr ins pins then Some (a_plain (a_csr csr ins pins)) else None
+
+-- {"csr":NAME,"op":OP, ..}
+abbrev pub csr_request : Members → Option Request
+csr_request members = do
+  name ← text_at (codes "csr") members
+  csr ← csr_called name
+  op ← text_at (codes "op") members
+  way ← way_called op
+  pins ← pins_of way.zero_rs1 members
+  csr_request_for csr way.ins pins (members_len members)
+
+-- ---- items
+
+-- by the key that leads the item
+abbrev pub request_by : Option Data → Members → Option Request
+request_by (Some ins) members = ins_request members
+request_by None members = csr_request members
+
 abbrev pub request_of : Data → Option Request
 request_of value = do
   members ← as_object value
-  name ← text_at (codes "ins") members
-  ins ← ins_called name
-  pins ← pins_of members
-  request_for ins pins (members_len members)
+  request_by (get_member (codes "ins") members) members
 
 -- the items of a template: each is a request
 abbrev pub items_of : Values → Option Items

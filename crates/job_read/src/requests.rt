@@ -4,11 +4,11 @@ ghost use Rattle.serde_json.specs.View.{view, items_view, members_view};
 ghost use Rattle.json_keys.specs.Input.{ReadsAs};
 ghost use Rattle.json_keys.specs.Json.{integer};
 ghost use Rattle.region_plan.specs.Views.{items_seen, pins_seen, request_seen};
-ghost use Rattle.job_read.specs.Accepted.{given_by, items_of, key_count, pins_of, register, request_for, request_of};
+ghost use Rattle.job_read.specs.Accepted.{csr_request, csr_request_for, given_by, ins_request, ins_request_for, items_of, key_count, pins_of, register, request_by, request_of, way_called};
 
 use json_keys::{InputFault, Members, text_at, value_at};
 use region_plan::{InsChoice, Item, Pins, Request};
-use rv_fields::Ins;
+use rv_fields::{Csr, Ins, csr_named};
 use rv_table::by_name;
 use serde_json::Value;
 use std::alloc::Global;
@@ -25,22 +25,32 @@ pub(crate) fn items_of(alloc: Global, values: &[Value]) -> Result<Vec<Item>, Inp
     Ok(items)
 }
 
-/// The request of an item: an instruction with all of its operands.
-#[tactic(auto, using(json_keys::proofs::Reading::lengths))]
+/// The request of an item.
 fn request_of(value: &Value) -> Option<Request>
     ensures { option_map request_seen result ≡ request_of (view value.now) }
 {
     let members = value.as_object()?;
+    match value_at("ins", members) {
+        Some(_) => ins_request(members),
+        None => csr_request(members),
+    }
+}
+
+/// One instruction, with all of its operands.
+#[tactic(auto, using(json_keys::proofs::Reading::lengths))]
+fn ins_request(members: &Members) -> Option<Request>
+    ensures { option_map request_seen result ≡ ins_request (members_view members.now.entries) }
+{
     let ins = by_name(text_at("ins", members)?)?;
-    let pins = pins_of(members)?;
-    request_for(ins, pins, members.len())
+    let pins = pins_of(members, false)?;
+    ins_request_for(ins, pins, members.len())
 }
 
 /// The request of an item with so many keys, where these are all that it may have.
-fn request_for(ins: Ins, pins: Pins, keys: usize) -> Option<Request>
-    ensures { option_map request_seen result ≡ request_for ins (pins_seen pins) keys }
+fn ins_request_for(ins: Ins, pins: Pins, keys: usize) -> Option<Request>
+    ensures { option_map request_seen result ≡ ins_request_for ins (pins_seen pins) keys }
 {
-    if keys == key_count(&pins) && pins.are_all_pinned(ins) {
+    if keys == 1 + key_count(&pins) && pins.are_all_pinned(ins) {
         Some(Request::Ins {
             ins: InsChoice::Named(ins),
             pins,
@@ -50,23 +60,70 @@ fn request_for(ins: Ins, pins: Pins, keys: usize) -> Option<Request>
     }
 }
 
+/// One instruction on a CSR, with all of its operands.
+#[tactic(auto, using(json_keys::proofs::Reading::lengths))]
+fn csr_request(members: &Members) -> Option<Request>
+    ensures { option_map request_seen result ≡ csr_request (members_view members.now.entries) }
+{
+    let csr = csr_named(text_at("csr", members)?)?;
+    let way = way_called(text_at("op", members)?)?;
+    let pins = pins_of(members, way.zero_rs1)?;
+    csr_request_for(csr, way.ins, pins, members.len())
+}
+
+/// What is done with a CSR: the instruction, and whether its rs1 is the fixed x0 of a read.
+#[derive(Clone, Copy)]
+pub(crate) struct CsrWay {
+    pub ins: Ins,
+    pub zero_rs1: bool,
+}
+
+/// What the word says to do with a CSR. A read sets no bits.
+fn way_called(name: &str) -> Option<CsrWay>
+    ensures { result ≡ way_called name.now }
+{
+    if name == "read" {
+        return Some(CsrWay {
+            ins: Ins::Csrrs,
+            zero_rs1: true,
+        });
+    }
+    let ins = by_name(name)?;
+    Some(CsrWay {
+        ins,
+        zero_rs1: false,
+    })
+}
+
+/// The request of an item with so many keys, where these are all that it may have.
+fn csr_request_for(csr: Csr, ins: Ins, pins: Pins, keys: usize) -> Option<Request>
+    ensures { option_map request_seen result ≡ csr_request_for csr ins (pins_seen pins) keys }
+{
+    if keys == 2 + key_count(&pins) && pins.are_of_csr(csr, ins) {
+        Some(Request::Csr { csr, ins, pins })
+    } else {
+        None
+    }
+}
+
 /// The operands that the item gives.
-fn pins_of(members: &Members) -> Option<Pins>
-    ensures { option_map pins_seen result ≡ pins_of (members_view members.now.entries) }
+fn pins_of(members: &Members, zero_rs1: bool) -> Option<Pins>
+    ensures { option_map pins_seen result ≡ pins_of zero_rs1 (members_view members.now.entries) }
 {
     Some(Pins {
         rd: register_at("rd", members)?,
         rs1: register_at("rs1", members)?,
         rs2: register_at("rs2", members)?,
         imm: integer_at("imm", members)?,
+        zero_rs1,
     })
 }
 
-/// How many keys an item with these operands has.
+/// How many keys give these operands.
 fn key_count(pins: &Pins) -> usize
     ensures { result ≡ key_count (pins_seen pins.now) }
 {
-    1 + usize::from(pins.rd.is_some())
+    usize::from(pins.rd.is_some())
         + usize::from(pins.rs1.is_some())
         + usize::from(pins.rs2.is_some())
         + usize::from(pins.imm.is_some())

@@ -1,6 +1,6 @@
 use super::*;
 use region_plan::{HartPlan, InsChoice, Item, MOST_REQUESTS, Pins, Request};
-use rv_fields::{Ins, MOST_HARTS, Mode};
+use rv_fields::{Csr, Ins, MOST_HARTS, Mode};
 use std::alloc::{AllocError, Global};
 use std::test::*;
 
@@ -54,6 +54,7 @@ fn reads_a_request(rt: HostRuntime) -> Result<(), Fail> {
         rs1: Some(0),
         rs2: None,
         imm: Some(5),
+        zero_rs1: false,
     };
     let plan = HartPlan {
         mode: Mode::M,
@@ -74,6 +75,7 @@ fn reads_a_sum_of_two_registers(rt: HostRuntime) -> Result<(), Fail> {
         rs1: Some(1),
         rs2: Some(31),
         imm: None,
+        zero_rs1: false,
     };
     assert_eq!(rt; job.hart_count(), 1);
     assert_eq!(rt; job.template(0), [item(Ins::Add, pins)].as_slice());
@@ -89,9 +91,103 @@ fn reads_a_request_without_sources(rt: HostRuntime) -> Result<(), Fail> {
         rs1: None,
         rs2: None,
         imm: Some(-4096),
+        zero_rs1: false,
     };
     assert_eq!(rt; job.hart_count(), 1);
     assert_eq!(rt; job.template(0), [item(Ins::Lui, pins)].as_slice());
+    Ok(())
+}
+
+#[test]
+fn reads_a_fence(rt: HostRuntime) -> Result<(), Fail> {
+    for (request, fits) in [
+        (r#"{"ins":"fence","imm":255}"#, true),
+        (r#"{"ins":"fence","rd":0,"rs1":0,"imm":0}"#, true),
+        (r#"{"ins":"fence","imm":256}"#, false),
+        (r#"{"ins":"fence","imm":-1}"#, false),
+        (r#"{"ins":"fence","rd":1,"imm":0}"#, false),
+        (r#"{"ins":"fence","rs1":1,"imm":0}"#, false),
+        (r#"{"ins":"fence","rs2":0,"imm":0}"#, false),
+        (r#"{"ins":"fence"}"#, false),
+    ] {
+        let text = job_of(rt.alloc(), request)?;
+        assert_eq!(rt; is_not_built(rt.alloc(), text.as_str()), !fits, "{request}");
+    }
+    Ok(())
+}
+
+#[test]
+fn reads_csr_requests(rt: HostRuntime) -> Result<(), Fail> {
+    let text = job_of(
+        rt.alloc(),
+        r#"{"csr":"mscratch","op":"csrrw","rd":5,"rs1":0},{"csr":"mhartid","op":"read","rd":6}"#,
+    )?;
+    let job = read_job(rt.alloc(), text.as_bytes())?;
+    let swap = Request::Csr {
+        csr: Csr::Mscratch,
+        ins: Ins::Csrrw,
+        pins: Pins {
+            rd: Some(5),
+            rs1: Some(0),
+            rs2: None,
+            imm: None,
+            zero_rs1: false,
+        },
+    };
+    let read = Request::Csr {
+        csr: Csr::Mhartid,
+        ins: Ins::Csrrs,
+        pins: Pins {
+            rd: Some(6),
+            rs1: None,
+            rs2: None,
+            imm: None,
+            zero_rs1: true,
+        },
+    };
+    assert_eq!(rt;
+        job.template(0),
+        [Item::One(swap), Item::One(read)].as_slice()
+    );
+    Ok(())
+}
+
+#[test]
+fn accepts_what_a_template_may_do_with_csrs(rt: HostRuntime) -> Result<(), Fail> {
+    for (request, fits) in [
+        (r#"{"csr":"sscratch","op":"csrrs","rd":5,"rs1":6}"#, true),
+        (r#"{"csr":"sscratch","op":"csrrc","rd":5,"rs1":6}"#, true),
+        (r#"{"csr":"mstatus","op":"csrrs","rd":5,"rs1":0}"#, true),
+        (r#"{"csr":"mhartid","op":"csrrc","rd":5,"rs1":0}"#, true),
+        (r#"{"csr":"satp","op":"read","rd":0}"#, true),
+        (r#"{"csr":"mstatus","op":"csrrs","rd":5,"rs1":1}"#, false),
+        (r#"{"csr":"mepc","op":"csrrw","rd":5,"rs1":0}"#, false),
+        (r#"{"csr":"mhartid","op":"csrrw","rd":5,"rs1":0}"#, false),
+        (r#"{"csr":"mcause","op":"read","rd":5}"#, false),
+        (r#"{"csr":"mtval","op":"read","rd":5}"#, false),
+        (r#"{"csr":"mie","op":"read","rd":5}"#, false),
+        (r#"{"csr":"mideleg","op":"read","rd":5}"#, false),
+        (r#"{"csr":"pmpcfg0","op":"read","rd":5}"#, false),
+        (r#"{"csr":"pmpaddr0","op":"read","rd":5}"#, false),
+        (r#"{"csr":"misa","op":"read","rd":5}"#, false),
+        (r#"{"csr":"mscratch","op":"read","rd":5,"rs1":0}"#, false),
+        (r#"{"csr":"mscratch","op":"csrrw","rd":5}"#, false),
+        (r#"{"csr":"mscratch","op":"csrrwi","rd":5,"rs1":0}"#, false),
+        (r#"{"csr":"mscratch","op":"addi","rd":5,"rs1":0}"#, false),
+        (r#"{"csr":"mscratch","op":"csrrw","rs1":0}"#, false),
+        (
+            r#"{"csr":"mscratch","op":"csrrw","rd":5,"rs1":0,"imm":0}"#,
+            false,
+        ),
+        (r#"{"csr":"mscratch","op":"csrrw","rd":32,"rs1":0}"#, false),
+        (
+            r#"{"ins":"csrrw","csr":"mscratch","op":"csrrw","rd":5,"rs1":0}"#,
+            false,
+        ),
+    ] {
+        let text = job_of(rt.alloc(), request)?;
+        assert_eq!(rt; is_not_built(rt.alloc(), text.as_str()), !fits, "{request}");
+    }
     Ok(())
 }
 
@@ -213,7 +309,8 @@ fn refuses_other_requests(rt: HostRuntime) -> Result<(), Fail> {
         r#"{"ins":"jal","rd":1,"imm":8}"#,
         r#"{"ins":"jalr","rd":1,"rs1":0,"imm":8}"#,
         r#"{"ins":"lw","rd":1,"rs1":0,"imm":8}"#,
-        r#"{"ins":"fence","rd":0,"rs1":0,"imm":0}"#,
+        r#"{"ins":"csrrw","rd":1,"rs1":0}"#,
+        r#"{"ins":"ecall"}"#,
         r#"{"ins":"addi","rd":"1","rs1":0,"imm":5}"#,
         r#"{"ins":"addi","rd":1,"rs1":0}"#,
         r#"{"ins":"addi","rd":1,"rs1":0,"imm":5,"avoid":0}"#,

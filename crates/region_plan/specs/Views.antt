@@ -1,5 +1,5 @@
 -- The jobs that the types of this crate hold.
-use Rattle.std.specs.Prelude.{ℕ, ◌≡◌, ◌<◌, List, [], ◌∷◌, false, get_or, length, map}
+use Rattle.std.specs.Prelude.{ℕ, ◌≡◌, ◌<◌, List, [], ◌∷◌, get_or, length, map}
 use Rattle.rv_fields.specs.declared.mode.Mode.TheVariants.{M}
 use Rattle.region_plan.specs.declared.job.Job.{Job}
 use Rattle.region_plan.specs.declared.plan.HartPlan as code
@@ -9,18 +9,19 @@ use Rattle.region_plan.specs.declared.request.Item as item
 use Rattle.region_plan.specs.declared.request.Item.TheVariants.{One}
 use Rattle.region_plan.specs.declared.request.Pins as pinned
 use Rattle.region_plan.specs.declared.request.Request as asked
-use Rattle.region_plan.specs.declared.request.Request.TheVariants.{Ins}
+use Rattle.region_plan.specs.declared.request.Request.TheVariants.{Ins, Csr}
 use Rattle.region_plan.specs.Plan.{HartPlan, Work, hart_count, no_hart, plan_of, plain_code_pages}
-use Rattle.region_plan.specs.Request.{InsChoice, Items, Pins, Request, a_plain, an_ins, named_ins, no_items, one}
+use Rattle.region_plan.specs.Request.{InsChoice, Items, Pins, Request, a_csr, a_plain, an_ins, named_ins, no_items, one}
 
 abbrev pub choice_seen : choice.InsChoice → InsChoice
 choice_seen (Named ins) = named_ins ins
 
 abbrev pub pins_seen : pinned.Pins → Pins
-pins_seen p = record { rd = p.rd; rs1 = p.rs1; rs2 = p.rs2; imm = p.imm; aqrl = 0; avoid = []; zero_rs1 = false }
+pins_seen p = record { rd = p.rd; rs1 = p.rs1; rs2 = p.rs2; imm = p.imm; aqrl = 0; avoid = []; zero_rs1 = p.zero_rs1 }
 
 abbrev pub request_seen : asked.Request → Request
 request_seen (Ins ins pins) = a_plain (an_ins (choice_seen ins) (pins_seen pins))
+request_seen (Csr csr ins pins) = a_plain (a_csr csr ins (pins_seen pins))
 
 abbrev pub items_seen : List item.Item → Items
 items_seen [] = no_items

@@ -19,6 +19,7 @@ fn item() -> Item {
             rs1: Some(0),
             rs2: None,
             imm: Some(-5),
+            zero_rs1: false,
         },
     })
 }

@@ -24,6 +24,7 @@ fn item() -> Item
             rs1: Some(1),
             rs2: None,
             imm: Some(7),
+            zero_rs1: false,
         },
     })
 }
