@@ -1,4 +1,4 @@
-//! Each instruction that computes a value, with all its operands given.
+//! Each instruction that a template may ask for, with all its operands given.
 
 use super::replays::REPLAY;
 use super::{assert_ends, assert_made};
@@ -8,7 +8,7 @@ use std::test::*;
 use store_face::MemStore;
 use trace_text::{Line, StepLine, read_trace};
 
-/// A request for each of them, and the word that the GNU assembler makes of it.
+/// A request for each instruction that computes a value, and the word that the GNU assembler makes of it.
 const ROWS: [(&str, u32); 43] = [
     (r#"{"ins":"lui","rd":31,"imm":-2147483648}"#, 0x8000_0fb7),
     (r#"{"ins":"auipc","rd":30,"imm":2147479552}"#, 0x7fff_ff17),
@@ -135,6 +135,82 @@ const EDGES: [(&str, u8, u64); 16] = [
     ),
 ];
 
+/// Fences and requests on CSRs, the words that the GNU assembler makes of them, and what these write: what the boot left in
+/// the CSRs, and what was written before.
+const CSRS: [(&str, u32, Option<(u8, u64)>); 15] = [
+    (r#"{"ins":"fence","imm":255}"#, 0x0ff0_000f, None),
+    (
+        r#"{"csr":"mscratch","op":"csrrw","rd":5,"rs1":0}"#,
+        0x3400_12f3,
+        Some((5, 0)),
+    ),
+    (
+        r#"{"ins":"addi","rd":1,"rs1":0,"imm":77}"#,
+        0x04d0_0093,
+        Some((1, 0x4d)),
+    ),
+    (
+        r#"{"ins":"addi","rd":2,"rs1":0,"imm":269}"#,
+        0x10d0_0113,
+        Some((2, 0x10d)),
+    ),
+    (
+        r#"{"csr":"mscratch","op":"csrrw","rd":0,"rs1":1}"#,
+        0x3400_9073,
+        None,
+    ),
+    (
+        r#"{"csr":"mscratch","op":"read","rd":6}"#,
+        0x3400_2373,
+        Some((6, 0x4d)),
+    ),
+    (
+        r#"{"csr":"sscratch","op":"csrrs","rd":7,"rs1":2}"#,
+        0x1401_23f3,
+        Some((7, 0)),
+    ),
+    (
+        r#"{"csr":"sscratch","op":"csrrc","rd":8,"rs1":1}"#,
+        0x1400_b473,
+        Some((8, 0x10d)),
+    ),
+    (
+        r#"{"csr":"sscratch","op":"read","rd":9}"#,
+        0x1400_24f3,
+        Some((9, 0x100)),
+    ),
+    (
+        r#"{"csr":"mstatus","op":"read","rd":10}"#,
+        0x3000_2573,
+        Some((10, 0xa_0000_0080)),
+    ),
+    (
+        r#"{"csr":"sstatus","op":"csrrc","rd":11,"rs1":0}"#,
+        0x1000_35f3,
+        Some((11, 0x2_0000_0000)),
+    ),
+    (
+        r#"{"csr":"mtvec","op":"csrrs","rd":12,"rs1":0}"#,
+        0x3050_2673,
+        Some((12, 0x8002_0000)),
+    ),
+    (
+        r#"{"csr":"mepc","op":"read","rd":13}"#,
+        0x3410_26f3,
+        Some((13, 0x8400_0000)),
+    ),
+    (
+        r#"{"csr":"stvec","op":"read","rd":14}"#,
+        0x1050_2773,
+        Some((14, 0x3f_ffff_f000)),
+    ),
+    (r#"{"csr":"mhartid","op":"read","rd":0}"#, 0xf140_2073, None),
+];
+
+/// The fourth of four harts reads its number.
+const FOUR_HARTS: &[u8] =
+    br#"{"version":1,"harts":[{"mode":"M","code_pages":1,"template":[]},{"mode":"M","code_pages":1,"template":[]},{"mode":"M","code_pages":1,"template":[]},{"mode":"M","code_pages":1,"template":[{"csr":"mhartid","op":"read","rd":5}]}]}"#;
+
 /// What stands before and behind the requests of a job of one hart.
 const FIRST: &str = r#"{"version":1,"harts":[{"mode":"M","code_pages":1,"template":["#;
 
@@ -204,5 +280,34 @@ fn divisions_at_the_edges_write_what_the_manual_says(rt: HostRuntime) -> Result<
     for (step, (request, register, value)) in steps.iter().zip(EDGES) {
         assert_eq!(rt; step.rd, Some((register, value)), "{request}");
     }
+    Ok(())
+}
+
+#[test]
+fn csrs_are_read_back_as_they_were_written(rt: HostRuntime) -> Result<(), Fail> {
+    let mut requests = String::new(rt.alloc());
+    for (request, _, _) in CSRS {
+        add(&mut requests, request)?;
+    }
+    let line = "harts 1 steps 16 done 15 refused 0\n";
+    let store = made_of(&rt, rt.alloc(), &requests, line, "agrees 16 steps\n")?;
+    let steps = steps_of(rt.alloc(), &store)?;
+    assert_eq!(rt; steps.len(), CSRS.len());
+    for (step, (request, word, rd)) in steps.iter().zip(CSRS) {
+        assert_eq!(rt; (step.word, step.rd), (word, rd), "{request}");
+    }
+    Ok(())
+}
+
+#[test]
+fn a_hart_reads_its_number(rt: HostRuntime) -> Result<(), Fail> {
+    let line = "harts 4 steps 5 done 1 refused 0\n";
+    let store = assert_made(&rt, rt.alloc(), FOUR_HARTS, "7", line)?;
+    let steps = steps_of(rt.alloc(), &store)?;
+    assert_eq!(rt; steps.len(), 1);
+    assert_eq!(rt;
+        (steps[0].hart, steps[0].word, steps[0].rd),
+        (3, 0xf140_22f3, Some((5, 3)))
+    );
     Ok(())
 }
