@@ -1,5 +1,5 @@
 -- What the begin of a request computes to, where all of its operands are pinned.
-use Rattle.std.proofs.Common.{ℕ, zero, suc, ◌+◌, ◌-◌, ◌*◌, ◌^◌, ◌<◌, ◌≤◌, ◌≡◌, ℤ, pos, negsuc, Bool, true, false, not, cond, eqb, ltb, ◌&&◌, ◌||◌, get_or, List, [], ◌∷◌, length, filter, Option, Some, None, refl, sym, ap, subst, ◌∙◌, arith}
+use Rattle.std.proofs.Common.{ℕ, zero, suc, ◌+◌, ◌-◌, ◌^◌, ◌<◌, ◌≤◌, ◌≡◌, ℤ, pos, negsuc, Bool, true, false, not, cond, eqb, ltb, ◌&&◌, ◌||◌, get_or, List, [], ◌∷◌, length, filter, Option, Some, None, refl, sym, ap, subst, ◌∙◌, arith, lit<}
 use Rattle.std.specs.Prelude.{IfSome, is_none, option_map, unwrap_or}
 use Rattle.std.specs.List.{AllByRecursion, range_with_len}
 use Rattle.std.proofs.lemmas.Bool.{and_parts, eqb-true, ltb-true}
@@ -14,12 +14,12 @@ use Rattle.rv_fields.specs.declared.mode.Mode.TheVariants.{M}
 use Rattle.rv_fields.specs.declared.row_table.Form.{Form}
 use Rattle.rv_fields.specs.declared.row_table.Form.TheVariants.{U, I, H6, H5, C}
 use Rattle.rv_fields.specs.declared.row_table.Ins.{Ins}
-use Rattle.rv_fields.specs.declared.row_table.Ins.TheVariants.{Fence, Csrrwi, Csrrsi, Csrrci}
+use Rattle.rv_fields.specs.declared.row_table.Ins.TheVariants.{Fence, Ecall, Ebreak, Mret, Sret, SfenceVma}
 use Rattle.rv_fields.specs.declared.row_table.Ops.{Ops}
 use Rattle.rv_fields.specs.Class.{access_in, class_of}
 use Rattle.rv_fields.specs.Csr.{csr_number}
-use Rattle.rv_fields.specs.CsrFile.{CsrFile, may_write}
-use Rattle.rv_fields.specs.Decode.{Decoded, decoded, has_imm, has_rd, has_rs1, has_rs2, rs1_of_form, rs1_read}
+use Rattle.rv_fields.specs.CsrFile.{CsrFile, may_write, written}
+use Rattle.rv_fields.specs.Decode.{Decoded, decoded, has_imm, has_rd, has_rs1, has_rs2, ins_at}
 use Rattle.rv_fields.specs.Attempt.{◌>>=◌}
 use Rattle.rv_fields.specs.Effect.{Effect}
 use Rattle.rv_fields.specs.Hart.{Hart}
@@ -39,9 +39,9 @@ use Rattle.region_plan.specs.declared.request.InsChoice.TheVariants.{Named}
 use Rattle.region_plan.specs.declared.request.Request as code
 use Rattle.region_plan.specs.declared.request.Request.TheVariants as requests
 use Rattle.region_plan.specs.Plan.{HartPlan, Work, hart_count, no_hart, plan_of}
-use Rattle.region_plan.specs.Request.{Demand, InsChoice, Pins, Plain, Quiet, Request, a_csr, a_jump, a_loop, a_mem, a_pick, a_plain, a_set, a_sys, a_value, an_ins, by_tree, named_ins}
+use Rattle.region_plan.specs.Request.{Demand, InsChoice, Pins, Plain, Quiet, Request, a_csr, a_jump, a_loop, a_mem, a_pick, a_plain, a_set, a_sys, a_value, an_ins, by_tree, named_ins, SysWord, sys_ebreak, sys_ecall, sys_mret, sys_sfence, sys_sret, sys_zero}
 use Rattle.region_plan.specs.Pinned.{bare_pins, csr_ops, pinned_ops, is_by_register, is_csr_pinned, is_pinned_as, is_pinned_where, is_fully_pinned, is_scratch, may_change, may_name}
-use Rattle.region_plan.specs.Rules.{IsMakeable, IsMakeableRequest, IsPlainHart, KeepsRules}
+use Rattle.region_plan.specs.Rules.{IsMakeable, IsMakeableRequest, IsPlainHart, KeepsRules, IsMakeableSys}
 use Rattle.region_plan.specs.Script.{ScriptItem}
 use Rattle.region_plan.specs.Views.{request_seen}
 use Rattle.boot_words.specs.Layout.{code_start, window_at, window_by, window_words}
@@ -49,12 +49,12 @@ use Rattle.boot_words.proofs.Running.{named}
 use Rattle.trace_fields.specs.declared.request.Cause.TheVariants.{NoRegister}
 use Rattle.hart_task.specs.Acts.{begins}
 use Rattle.hart_task.specs.Asking.{demand_asked, word_asked}
-use Rattle.hart_task.specs.Beginning.{Prepared, cause_of, holds_cause, makes, prepared}
-use Rattle.hart_task.specs.Blocks.{Meets}
+use Rattle.hart_task.specs.Beginning.{Prepared, cause_of, holds_cause, makes, prepared, sys_word}
+use Rattle.hart_task.specs.Blocks.{Meets, IsPinned, csr_pins, AreHandled, IsStepOf}
 use Rattle.hart_task.specs.Heard.{Heard}
 use Rattle.hart_task.specs.State.{HartState, Loop, between, counter_of, index_of, is_done, making}
 use Rattle.hart_task.specs.Turn.{Next, Turned, begin_prepared, begin_turn, meets, next_of, next_turn, turned, turned_in}
-use Rattle.hart_task.proofs.Bare.{GoesOn, bare_step, changes_on, computes_on, fences_on}
+use Rattle.hart_task.proofs.Bare.{GoesOn, KeepsWay, bare_step, changes_on, computes_on, fences_on, Proceeds, bare_quiet, calls_trapped, goes_on, breaks_trapped, translation_fenced, unknown_trapped}
 use Rattle.hart_task.proofs.Makes.{IsQuietWord}
 
 -- ---- the word of a request
@@ -68,7 +68,7 @@ plain_word (an_ins ins pins) = ins_word ins pins
 plain_word (a_mem r) = 0
 plain_word (a_jump r) = 0
 plain_word (a_csr csr ins pins) = word_by ins (csr_ops csr pins)
-plain_word (a_sys sys) = 0
+plain_word (a_sys sys) = sys_word sys
 plain_word (a_value value pins) = 0
 
 -- the word of a request all of whose operands are pinned; 0 where there is none
@@ -96,10 +96,12 @@ pinned_demand (a_pick tree) = None
 pub word_seen_is : (r : code.Request) → pinned_word (request_seen r) ≡ word_asked r
 word_seen_is (requests.Ins (Named ins) pins) = refl
 word_seen_is (requests.Csr csr ins pins) = refl
+word_seen_is (requests.Sys sys) = refl
 
 pub demand_seen_is : (r : code.Request) → pinned_demand (request_seen r) ≡ demand_asked r
 demand_seen_is (requests.Ins ins pins) = refl
 demand_seen_is (requests.Csr csr ins pins) = refl
+demand_seen_is (requests.Sys sys) = refl
 
 -- ---- the requests that can be made
 
@@ -133,7 +135,7 @@ pub record CsrParts (csr : Csr) (ins : Ins) (rd rs1 rs2 : Option ℕ) (imm : Opt
   pub registers : RegisterParts (form_of ins) rd rs1 rs2 zero_rs1
   pub fits : misfit (form_of ins) (csr_ops csr (bare_pins rd rs1 rs2 imm zero_rs1)) ≡ None
 
--- an instruction with all its operands
+-- an instruction with all its operands, or a word
 pub data IsKnown : Request → Type 0 where
   is_known_ins : (ins : Ins) (rd rs1 rs2 : Option ℕ) (imm : Option ℤ) (zero_rs1 : Bool) → InsParts ins rd rs1 rs2 imm zero_rs1
       → IsKnown (a_plain (an_ins (named_ins ins) (bare_pins rd rs1 rs2 imm zero_rs1)))
@@ -141,6 +143,7 @@ pub data IsKnown : Request → Type 0 where
       → IsKnown (a_plain (an_ins (named_ins Fence) (bare_pins rd rs1 rs2 (Some (pos n)) zero_rs1)))
   is_known_csr : (csr : Csr) (ins : Ins) (rd rs1 rs2 : Option ℕ) (imm : Option ℤ) (zero_rs1 : Bool) → CsrParts csr ins rd rs1 rs2 imm zero_rs1
       → IsKnown (a_plain (a_csr csr ins (bare_pins rd rs1 rs2 imm zero_rs1)))
+  is_known_sys : (sys : SysWord) → IsMakeableSys sys → IsKnown (a_plain (a_sys sys))
 
 without : {A : Type 0} (m : Option A) → is_none m ≡ true → m ≡ None
 without None e = refl
@@ -215,7 +218,7 @@ known (a_plain (a_csr csr ins pins)) m =
     let alone : bare_pins pins.rd pins.rs1 pins.rs2 pins.imm pins.zero_rs1 ≡ pins = sym m.alone in
     subst (λ p. IsKnown (a_plain (a_csr csr ins p))) alone
     (is_known_csr csr ins pins.rd pins.rs1 pins.rs2 pins.imm pins.zero_rs1 (known_csr csr ins pins.rd pins.rs1 pins.rs2 pins.imm pins.zero_rs1 (ap (is_csr_pinned csr ins) alone ∙ m.whole)))
-known (a_plain (a_sys sys)) m = absurd m
+known (a_plain (a_sys sys)) m = is_known_sys sys m
 known (a_plain (a_value value pins)) m = absurd m
 known (a_loop times counter body) m = absurd m
 known (a_set tree path weight) m = absurd m
@@ -358,12 +361,14 @@ prepared_is r (is_known_fence rd rs1 rs2 n zero_rs1 whole) work s leaf is =
 prepared_is r (is_known_csr csr ins rd rs1 rs2 imm zero_rs1 whole) work s leaf is =
     ap (λ os. let d : Drawn = with_imm ins (Some (pos (csr_number csr))) (registers_drawn s.draws os) in makes (word_by ins d.ops ∷ []) None d.left)
     (csr_registers csr ins rd rs1 rs2 imm (Some (pos (csr_number csr))) zero_rs1 (counter_of s) whole (no_counter s is))
+prepared_is r (is_known_sys sys may) work s leaf is = refl
 
 -- ---- no cause holds
 
 -- what is known of the hart's plan and of the job
 pub record IsPlainWork (work : Work) (h : ℕ) : Type 0 where
-  pub plan : plan_of work h ≡ record no_hart { template = (plan_of work h).template }
+  pub plan : plan_of work h ≡ record no_hart { code_pages = (plan_of work h).code_pages; template = (plan_of work h).template }
+  pub some_pages : 1 ≤ (plan_of work h).code_pages
   pub budget : work.budget ≡ 16384
 
 plain_at : (harts : List HartPlan) (h : ℕ) → AllByRecursion IsPlainHart harts → h < length harts → IsPlainHart (get_or harts h no_hart)
@@ -375,13 +380,15 @@ pub plain_hart : (work : Work) (h : ℕ) → KeepsRules work → h < hart_count 
 plain_hart work h keeps small = plain_at work.harts h keeps.harts small
 
 pub plain_work : (work : Work) (h : ℕ) → KeepsRules work → h < hart_count work → IsPlainWork work h
-plain_work work h keeps small = record { plan = (plain_hart work h keeps small).plain; budget = ap (λ (w : Work). w.budget) keeps.rest }
+plain_work work h keeps small =
+    let hart = plain_hart work h keeps small in
+    record { plan = hart.plain; some_pages = hart.some_pages; budget = ap (λ (w : Work). w.budget) keeps.rest }
 
 pub window_is : (work : Work) (h : ℕ) → IsPlainWork work h → window_at work h ≡ code_start h
 window_is work h plain = ap (λ (p : HartPlan). window_by p h) plain.plan
 
-pub words_are : (work : Work) (h : ℕ) → IsPlainWork work h → window_words work h ≡ 1024
-words_are work h plain = ap (λ (p : HartPlan). 1024 * p.code_pages) plain.plan
+pub has_first_page : (work : Work) (h : ℕ) → IsPlainWork work h → 1024 ≤ window_words work h
+has_first_page work h plain = let some = plain.some_pages in omega (arith, some)
 
 pub no_space : (work : Work) (h : ℕ) → IsPlainWork work h → (plan_of work h).space ≡ None
 no_space work h plain = ap (λ (p : HartPlan). p.space) plain.plan
@@ -392,12 +399,13 @@ serves_is r (is_known_ins ins rd rs1 rs2 imm zero_rs1 whole) work s heard p is =
 serves_is r (is_known_fence rd rs1 rs2 n zero_rs1 whole) work s heard p is = refl
 serves_is r (is_known_csr csr ins rd rs1 rs2 imm zero_rs1 whole) work s heard p is =
     ap (λ os. not (serve os)) (csr_registers csr ins rd rs1 rs2 imm imm zero_rs1 (counter_of s) whole (no_counter s is))
+serves_is r (is_known_sys sys may) work s heard p is = refl
 
 not_and : (b c : Bool) → c ≡ false → (b && c) ≡ false
 not_and true c is = is
 not_and false c is = refl
 
-module _ (work : Work) (s : HartState) (heard : Heard) (plain : IsPlainWork work s.hart.number) (few : s.steps ≤ 1000) (early : index_of work s ≤ 999) where
+module _ (work : Work) (s : HartState) (heard : Heard) (plain : IsPlainWork work s.hart.number) (few : s.steps ≤ 7000) (early : index_of work s ≤ 999) where
   spent_not : (n : ℕ) → n ≤ 15 → (is_none s.loop && ltb work.budget (s.steps + n + 1)) ≡ false
   spent_not n small =
       let budget : work.budget ≡ 16384 = plain.budget in
@@ -405,7 +413,7 @@ module _ (work : Work) (s : HartState) (heard : Heard) (plain : IsPlainWork work
 
   full_not : (is_none s.loop && ltb (window_words work s.hart.number - 1) (index_of work s + 1)) ≡ false
   full_not =
-      let words : window_words work s.hart.number ≡ 1024 = words_are work s.hart.number plain in
+      let words : 1024 ≤ window_words work s.hart.number = has_first_page work s.hart.number plain in
       not_and (is_none s.loop) _ (grind (arith, nat_tests))
 
   cause_not : (r : Request) → IsKnown r → s.loop ≡ None → (draws : Draws) → cause_of work s heard r (makes (pinned_word r ∷ []) (pinned_demand r) draws) ≡ None
@@ -416,6 +424,7 @@ module _ (work : Work) (s : HartState) (heard : Heard) (plain : IsPlainWork work
       of r (is_known_ins ins rd rs1 rs2 imm zero_rs1 whole) serves = rw (spent_not 15 (omega arith), serves, full_not) refl
       of r (is_known_fence rd rs1 rs2 n zero_rs1 whole) serves = rw (spent_not 15 (omega arith), full_not) refl
       of r (is_known_csr csr ins rd rs1 rs2 imm zero_rs1 whole) serves = rw (spent_not 15 (omega arith), serves, full_not) refl
+      of r (is_known_sys sys may) serves = rw (spent_not 15 (omega arith), full_not) refl
 
   -- the entry begins, and its word is made next
   abbrev pub begun_so : ScriptItem → List ScriptItem → Turned
@@ -434,6 +443,7 @@ module _ (work : Work) (s : HartState) (heard : Heard) (plain : IsPlainWork work
       of r (is_known_ins ins rd rs1 rs2 imm zero_rs1 whole) = rw (no_space work s.hart.number plain) refl
       of r (is_known_fence rd rs1 rs2 n zero_rs1 whole) = rw (no_space work s.hart.number plain) refl
       of r (is_known_csr csr ins rd rs1 rs2 imm zero_rs1 whole) = rw (no_space work s.hart.number plain) refl
+      of r (is_known_sys sys may) = rw (no_space work s.hart.number plain) refl
 
   begin_turn_is : (item : ScriptItem) (rest : List ScriptItem) → IsKnown item.request → s.loop ≡ None
       → begin_turn work s heard (record { entry = item; state = record s { left = rest; count = s.count + 1 } }) ≡ begun_so item rest
@@ -450,7 +460,7 @@ begun_state s item rest =
 
 -- Between two requests the next one of the script begins, whatever its parts answer.
 pub begins_is : (work : Work) (s : HartState) (heard : Heard) (item : ScriptItem) (rest : List ScriptItem) → KeepsRules work → s.hart.number < hart_count work
-    → s.phase ≡ between → s.loop ≡ None → s.left ≡ item ∷ rest → IsMakeable item → s.steps ≤ 1000 → index_of work s ≤ 999
+    → s.phase ≡ between → s.loop ≡ None → s.left ≡ item ∷ rest → IsMakeable item → s.steps ≤ 7000 → index_of work s ≤ 999
     → turned work s heard ≡ Some (record {
       act = begins (record { k = s.count; request = item.request; pick = None; settle = None; short = None }) None [];
       state = begun_state s item rest;
@@ -473,63 +483,69 @@ zero_read has zero_rs1 None there is = refl
 zero_read true zero_rs1 (Some r) there is = absurd (let no = ap not is in cc)
 zero_read false zero_rs1 (Some r) there is = absurd cc
 
--- What is known of the word of a request: its row, how its step goes, that this meets the request, and that it is what the request
--- demands.
-pub record IsAsked (r : Request) (d : Decoded) : Type 0 where
-  pub quiet : IsQuietWord (pinned_word r) (Some d)
-  pub rs1 : rs1_read d ≡ d.ops.rs1
-  pub goes : (hart : Hart) (a b : ℕ) → hart.mode ≡ M → GoesOn hart (bare_step hart (pinned_word r) (Some d) a b)
-  pub met : (e : Effect) → e.word ≡ Some (pinned_word r) → e.trap ≡ None → Meets r (e ∷ [])
-  pub demands : meets (pinned_demand r) None ≡ true
+-- What is known of the word of a request, by its row: how its step goes, that this is what the request demands, and that it meets
+-- the request with what its handler does behind it.
+pub record IsAskedBy (r : Request) (m : Option Decoded) : Type 0 where
+  pub quiet : IsQuietWord (pinned_word r) m
+  pub proceeds : (hart : Hart) (a b : ℕ) → hart.mode ≡ M → Proceeds hart (pinned_word r) (bare_step hart (pinned_word r) m a b)
+  pub demands : (hart : Hart) (a b : ℕ) → hart.mode ≡ M → meets (pinned_demand r) (bare_step hart (pinned_word r) m a b).effect.trap ≡ true
+  pub met : (hart : Hart) (a b : ℕ) (others : List Effect) → hart.mode ≡ M → AreHandled (bare_step hart (pinned_word r) m a b).effect.trap others
+      → Meets r ((bare_step hart (pinned_word r) m a b).effect ∷ []) others
+
+abbrev pub IsAsked : Request → Type 0
+IsAsked r = IsAskedBy r (decoded (pinned_word r))
+
+-- the step of a word tells the word
+has_word : (hart : Hart) (word : ℕ) (m : Option Decoded) (a b : ℕ) → IsQuietWord word m → (bare_step hart word m a b).effect.word ≡ Some word
+has_word hart word m a b quiet = ap (λ (e : Effect). e.word) (bare_quiet hart word m a b quiet.bare)
+
+-- one of an instruction that goes on, with its pins
+goes_asked : (r : Request) (ins : Ins) (pins : Pins) (d : Decoded) → IsQuietWord (pinned_word r) (Some d) → IsPinned ins pins d → meets (pinned_demand r) None ≡ true
+    → ((own others : List Effect) → IsStepOf ins pins own others → Meets r own others)
+    → ((hart : Hart) (a b : ℕ) → hart.mode ≡ M → GoesOn hart (bare_step hart (pinned_word r) (Some d) a b)) → IsAskedBy r (Some d)
+goes_asked r ins pins d quiet pinned demands is_met on = record {
+  quiet = quiet;
+  proceeds = λ hart a b is_m. goes_on (on hart a b is_m);
+  demands = λ hart a b is_m. ap (meets (pinned_demand r)) (on hart a b is_m).trap ∙ demands;
+  met = λ hart a b others is_m handled. is_met _ others (record {
+    effect = (bare_step hart (pinned_word r) (Some d) a b).effect;
+    alone = refl;
+    no_trap = (on hart a b is_m).trap;
+    no_handler = subst (λ trap. AreHandled trap others) (on hart a b is_m).trap handled;
+    d = d;
+    word = ap (λ m. m >>= decoded) (has_word hart (pinned_word r) (Some d) a b quiet) ∙ quiet.row;
+    pinned = pinned;
+  });
+}
 
 -- the word of operands that fit
 fit_small : (ins : Ins) (ops : Ops) → misfit (form_of ins) ops ≡ None → word_by ins ops < 2 ^ 32
 fit_small ins ops fits = packed_lt (form_of ins) (value_of ins) ops (value_masked ins) (all_fit (form_of ins) ops fits)
 
--- an instruction that computes reads rs1 as a register
-reads_register : (ins : Ins) (ops : Ops) → class_of ins ≡ Computes → rs1_read (record { ins = ins; ops = ops }) ≡ ops.rs1
-reads_register Csrrwi ops computes = absurd cc
-reads_register Csrrsi ops computes = absurd cc
-reads_register Csrrci ops computes = absurd cc
-reads_register _ ops computes = refl
-
 asked_ins : (ins : Ins) (rd rs1 rs2 : Option ℕ) (imm : Option ℤ) (zero_rs1 : Bool) → InsParts ins rd rs1 rs2 imm zero_rs1
-    → IsAsked (a_plain (an_ins (named_ins ins) (bare_pins rd rs1 rs2 imm zero_rs1))) (record { ins = ins; ops = pinned_ops (bare_pins rd rs1 rs2 imm zero_rs1) })
-asked_ins ins rd rs1 rs2 imm zero_rs1 whole = record {
-  quiet = record {
-    small = fit_small ins ops whole.fits;
-    row = row;
-    bare = ap access_in whole.computes;
-    closed = ap (λ c. names_open c d) whole.computes;
-  };
-  rs1 = reads_register ins ops whole.computes;
-  goes = λ hart a b is_m. computes_on hart (word_by ins ops) d a b whole.computes;
-  met = λ e has quiet. record {
-    effect = e;
-    alone = refl;
-    no_trap = quiet;
-    d = d;
-    word = ap (λ m. m >>= decoded) has ∙ row;
-    pinned = record {
+    → IsAskedBy (a_plain (an_ins (named_ins ins) (bare_pins rd rs1 rs2 imm zero_rs1))) (Some (record { ins = ins; ops = pinned_ops (bare_pins rd rs1 rs2 imm zero_rs1) }))
+asked_ins ins rd rs1 rs2 imm zero_rs1 whole = goes_asked _ ins (bare_pins rd rs1 rs2 imm zero_rs1) d
+    (record {
+      small = fit_small ins ops whole.fits;
+      row = encoded_decodes ins ops whole.fits;
+      bare = ap access_in whole.computes;
+      closed = ap (λ c. names_open c d) whole.computes;
+    })
+    (record {
       ins = refl;
       rd = if_pinned rd 0;
       rs1 = if_pinned rs1 0;
       zero_rs1 = zero_read (has_rs1 (form_of ins)) zero_rs1 rs1 whole.registers.rs1_is;
       rs2 = if_pinned rs2 0;
       imm = if_pinned imm (pos 0);
-    };
-  };
-  demands = refl;
-}
+    })
+    refl (λ own others met. met) (λ hart a b is_m. computes_on hart (word_by ins ops) d a b whole.computes)
   where
     ops : Ops
     ops = pinned_ops (bare_pins rd rs1 rs2 imm zero_rs1)
 
     d : Decoded
     d = record { ins = ins; ops = ops }
-
-    row : decoded (word_by ins ops) ≡ Some d
-    row = encoded_decodes ins ops whole.fits
 
 fence_fits_at : (n : ℕ) → n < 256 → misfit I (record { rd = 0; rs1 = 0; rs2 = 0; imm = pos n; aqrl = 0 }) ≡ None
 fence_fits_at n small =
@@ -541,28 +557,18 @@ fence_fits rd rs1 rs2 n zero_rs1 whole =
     (λ i. misfit I (record { rd = whole.rd_is i; rs1 = whole.rs1_is i; rs2 = unwrap_or (whole.rs2_is i) 0; imm = pos n; aqrl = 0 })) ∙ fence_fits_at n whole.small
 
 asked_fence : (rd rs1 rs2 : Option ℕ) (n : ℕ) (zero_rs1 : Bool) → FenceParts rd rs1 rs2 n
-    → IsAsked (a_plain (an_ins (named_ins Fence) (bare_pins rd rs1 rs2 (Some (pos n)) zero_rs1))) (record { ins = Fence; ops = pinned_ops (bare_pins rd rs1 rs2 (Some (pos n)) zero_rs1) })
-asked_fence rd rs1 rs2 n zero_rs1 whole = record {
-  quiet = record { small = fit_small Fence ops fits; row = row; bare = refl; closed = refl };
-  rs1 = refl;
-  goes = λ hart a b is_m. fences_on hart (word_by Fence ops) d a b refl;
-  met = λ e has quiet. record {
-    effect = e;
-    alone = refl;
-    no_trap = quiet;
-    d = d;
-    word = ap (λ m. m >>= decoded) has ∙ row;
-    pinned = record {
+    → IsAskedBy (a_plain (an_ins (named_ins Fence) (bare_pins rd rs1 rs2 (Some (pos n)) zero_rs1))) (Some (record { ins = Fence; ops = pinned_ops (bare_pins rd rs1 rs2 (Some (pos n)) zero_rs1) }))
+asked_fence rd rs1 rs2 n zero_rs1 whole = goes_asked _ Fence (bare_pins rd rs1 rs2 (Some (pos n)) zero_rs1) d
+    (record { small = fit_small Fence ops fits; row = encoded_decodes Fence ops fits; bare = refl; closed = refl })
+    (record {
       ins = refl;
       rd = if_pinned rd 0;
       rs1 = if_pinned rs1 0;
       zero_rs1 = λ is. whole.rs1_is;
       rs2 = if_pinned rs2 0;
       imm = refl;
-    };
-  };
-  demands = refl;
-}
+    })
+    refl (λ own others met. met) (λ hart a b is_m. fences_on hart (word_by Fence ops) d a b refl)
   where
     ops : Ops
     ops = pinned_ops (bare_pins rd rs1 rs2 (Some (pos n)) zero_rs1)
@@ -572,9 +578,6 @@ asked_fence rd rs1 rs2 n zero_rs1 whole = record {
 
     d : Decoded
     d = record { ins = Fence; ops = ops }
-
-    row : decoded (word_by Fence ops) ≡ Some d
-    row = encoded_decodes Fence ops fits
 
 closed_named : (csr : Csr) → may_name csr ≡ true → is_open csr ≡ false
 closed_named Mcause may = absurd cc
@@ -586,50 +589,44 @@ scratch_open file Sscratch is = refl
 scratch_open file Mscratch is = refl
 scratch_open file _ is = absurd cc
 
--- what is written may be
-may_be_written : (change : CsrChange) (csr : Csr) (ops : Ops) (file : CsrFile) → may_change (ChangesCsr change) csr ops.rs1 ≡ true → writes change ops ≡ true → may_write file csr M ≡ true
-may_be_written Swap csr ops file may does = scratch_open file csr may
-may_be_written Set csr ops file may does = scratch_open file csr (one (is_scratch csr) (eqb ops.rs1 0) may does)
-  where
-    one : (s z : Bool) → (s || z) ≡ true → not z ≡ true → s ≡ true
-    one true z e apart = refl
-    one false true e apart = absurd cc
-    one false false e apart = absurd cc
-may_be_written Clear csr ops file may does = scratch_open file csr (one (is_scratch csr) (eqb ops.rs1 0) may does)
-  where
-    one : (s z : Bool) → (s || z) ≡ true → not z ≡ true → s ≡ true
-    one true z e apart = refl
-    one false true e apart = absurd cc
-    one false false e apart = absurd cc
+first_of : (s z : Bool) → (s || z) ≡ true → not z ≡ true → s ≡ true
+first_of true z e apart = refl
+first_of false true e apart = absurd cc
+first_of false false e apart = absurd cc
+
+scratch_keeps : (file : CsrFile) (csr : Csr) (value : ℕ) → is_scratch csr ≡ true → KeepsWay file (written file csr value)
+unfolding written
+scratch_keeps file Sscratch value is = (refl, refl)
+scratch_keeps file Mscratch value is = (refl, refl)
+scratch_keeps file _ value is = absurd cc
+
+-- what is written is a scratch register
+writes_scratch : (change : CsrChange) (csr : Csr) (ops : Ops) → may_change (ChangesCsr change) csr ops.rs1 ≡ true → writes change ops ≡ true → is_scratch csr ≡ true
+writes_scratch Swap csr ops may does = may
+writes_scratch Set csr ops may does = first_of (is_scratch csr) (eqb ops.rs1 0) may does
+writes_scratch Clear csr ops may does = first_of (is_scratch csr) (eqb ops.rs1 0) may does
 
 asked_csr : (csr : Csr) (ins : Ins) (rd rs1 rs2 : Option ℕ) (imm : Option ℤ) (zero_rs1 : Bool) → CsrParts csr ins rd rs1 rs2 imm zero_rs1
-    → IsAsked (a_plain (a_csr csr ins (bare_pins rd rs1 rs2 imm zero_rs1))) (record { ins = ins; ops = csr_ops csr (bare_pins rd rs1 rs2 imm zero_rs1) })
-asked_csr csr ins rd rs1 rs2 imm zero_rs1 whole = record {
-  quiet = record {
-    small = fit_small ins ops whole.fits;
-    row = row;
-    bare = ap access_in whole.row;
-    closed = ap (λ c. names_open c d) whole.row ∙ ap is_open_found (named csr) ∙ closed_named csr whole.named;
-  };
-  rs1 = ap (λ form. rs1_of_form form ops) whole.form;
-  goes = λ hart a b is_m. changes_on hart (word_by ins ops) d a b whole.change csr is_m whole.row (named csr) (may_be_written whole.change csr ops hart.csrs whole.may);
-  met = λ e has quiet. record {
-    effect = e;
-    alone = refl;
-    no_trap = quiet;
-    d = d;
-    word = ap (λ m. m >>= decoded) has ∙ row;
-    pinned = record {
+    → IsAskedBy (a_plain (a_csr csr ins (bare_pins rd rs1 rs2 imm zero_rs1))) (Some (record { ins = ins; ops = csr_ops csr (bare_pins rd rs1 rs2 imm zero_rs1) }))
+asked_csr csr ins rd rs1 rs2 imm zero_rs1 whole = goes_asked _ ins (csr_pins csr (bare_pins rd rs1 rs2 imm zero_rs1)) d
+    (record {
+      small = fit_small ins ops whole.fits;
+      row = encoded_decodes ins ops whole.fits;
+      bare = ap access_in whole.row;
+      closed = ap (λ c. names_open c d) whole.row ∙ ap is_open_found (named csr) ∙ closed_named csr whole.named;
+    })
+    (record {
       ins = refl;
       rd = if_pinned rd 0;
       rs1 = if_pinned rs1 0;
       zero_rs1 = zero_read (has_rs1 (form_of ins)) zero_rs1 rs1 whole.registers.rs1_is;
       rs2 = if_pinned rs2 0;
       imm = refl;
-    };
-  };
-  demands = refl;
-}
+    })
+    refl (λ own others met. met)
+    (λ hart a b is_m. changes_on hart (word_by ins ops) d a b whole.change csr is_m whole.row (named csr)
+    (λ does. scratch_open hart.csrs csr (writes_scratch whole.change csr ops whole.may does))
+    (λ does value. scratch_keeps hart.csrs csr value (writes_scratch whole.change csr ops whole.may does)))
   where
     ops : Ops
     ops = csr_ops csr (bare_pins rd rs1 rs2 imm zero_rs1)
@@ -637,15 +634,62 @@ asked_csr csr ins rd rs1 rs2 imm zero_rs1 whole = record {
     d : Decoded
     d = record { ins = ins; ops = ops }
 
-    row : decoded (word_by ins ops) ≡ Some d
-    row = encoded_decodes ins ops whole.fits
+-- ---- words of their own
 
-asked_known : (r : Request) → IsKnown r → (d : Decoded) × IsAsked r d
-asked_known r (is_known_ins ins rd rs1 rs2 imm zero_rs1 whole) = (_, asked_ins ins rd rs1 rs2 imm zero_rs1 whole)
-asked_known r (is_known_fence rd rs1 rs2 n zero_rs1 whole) = (_, asked_fence rd rs1 rs2 n zero_rs1 whole)
-asked_known r (is_known_csr csr ins rd rs1 rs2 imm zero_rs1 whole) = (_, asked_csr csr ins rd rs1 rs2 imm zero_rs1 whole)
+-- an instruction without operands
+abbrev bare_ins : Ins → Decoded
+bare_ins ins = record { ins = ins; ops = record { rd = 0; rs1 = 0; rs2 = 0; imm = pos 0; aqrl = 0 } }
 
-pub asked : (r : Request) → IsMakeableRequest r → (d : Decoded) × IsAsked r d
+abbrev sys_ins : SysWord → Option Decoded
+sys_ins sys_ecall = Some (bare_ins Ecall)
+sys_ins sys_ebreak = Some (bare_ins Ebreak)
+sys_ins sys_zero = None
+sys_ins sys_mret = Some (bare_ins Mret)
+sys_ins sys_sret = Some (bare_ins Sret)
+sys_ins sys_sfence = Some (bare_ins SfenceVma)
+
+sys_quiet : (sys : SysWord) → IsQuietWord (sys_word sys) (sys_ins sys)
+unfolding ins_at
+sys_quiet sys_ecall = record { small = lit< tt; row = refl; bare = refl; closed = refl }
+sys_quiet sys_ebreak = record { small = lit< tt; row = refl; bare = refl; closed = refl }
+sys_quiet sys_zero = record { small = lit< tt; row = refl; bare = tt; closed = refl }
+sys_quiet sys_mret = record { small = lit< tt; row = refl; bare = refl; closed = refl }
+sys_quiet sys_sret = record { small = lit< tt; row = refl; bare = refl; closed = refl }
+sys_quiet sys_sfence = record { small = lit< tt; row = refl; bare = refl; closed = refl }
+
+sys_proceeds : (sys : SysWord) (hart : Hart) (a b : ℕ) → IsMakeableSys sys → hart.mode ≡ M → Proceeds hart (sys_word sys) (bare_step hart (sys_word sys) (sys_ins sys) a b)
+sys_proceeds sys_ecall hart a b may is_m = calls_trapped hart (sys_word sys_ecall) (bare_ins Ecall) a b refl
+sys_proceeds sys_ebreak hart a b may is_m = breaks_trapped hart (sys_word sys_ebreak) (bare_ins Ebreak) a b refl
+sys_proceeds sys_zero hart a b may is_m = unknown_trapped hart 0 a b
+sys_proceeds sys_mret hart a b may is_m = absurd may
+sys_proceeds sys_sret hart a b may is_m = absurd may
+sys_proceeds sys_sfence hart a b may is_m = goes_on (translation_fenced hart (sys_word sys_sfence) (bare_ins SfenceVma) a b is_m refl)
+
+asked_sys : (sys : SysWord) → IsMakeableSys sys → IsAskedBy (a_plain (a_sys sys)) (sys_ins sys)
+asked_sys sys may = record {
+  quiet = sys_quiet sys;
+  proceeds = λ hart a b is_m. sys_proceeds sys hart a b may is_m;
+  demands = λ hart a b is_m. refl;
+  met = λ hart a b others is_m handled. record {
+    effect = (bare_step hart (sys_word sys) (sys_ins sys) a b).effect;
+    alone = refl;
+    word_is = has_word hart (sys_word sys) (sys_ins sys) a b (sys_quiet sys);
+    handled = handled;
+  };
+}
+
+-- ---- all requests
+
+asked_by : (r : Request) (m : Option Decoded) → IsAskedBy r m → IsAsked r
+asked_by r m q = subst (IsAskedBy r) (sym q.quiet.row) q
+
+asked_known : (r : Request) → IsKnown r → IsAsked r
+asked_known r (is_known_ins ins rd rs1 rs2 imm zero_rs1 whole) = asked_by r _ (asked_ins ins rd rs1 rs2 imm zero_rs1 whole)
+asked_known r (is_known_fence rd rs1 rs2 n zero_rs1 whole) = asked_by r _ (asked_fence rd rs1 rs2 n zero_rs1 whole)
+asked_known r (is_known_csr csr ins rd rs1 rs2 imm zero_rs1 whole) = asked_by r _ (asked_csr csr ins rd rs1 rs2 imm zero_rs1 whole)
+asked_known r (is_known_sys sys may) = asked_by r _ (asked_sys sys may)
+
+pub asked : (r : Request) → IsMakeableRequest r → IsAsked r
 asked r makeable = asked_known r (known r makeable)
 
 -- ---- its operands fit
@@ -659,7 +703,7 @@ PlainFits (an_ins ins pins) = InsFits ins pins
 PlainFits (a_mem r) = ⊥
 PlainFits (a_jump r) = ⊥
 PlainFits (a_csr csr ins pins) = misfit (form_of ins) (csr_ops csr pins) ≡ None
-PlainFits (a_sys sys) = ⊥
+PlainFits (a_sys sys) = Unit {0}
 PlainFits (a_value value pins) = ⊥
 
 abbrev pub RequestFits : Request → Type 0
@@ -672,6 +716,7 @@ known_fits : (r : Request) → IsKnown r → RequestFits r
 known_fits r (is_known_ins ins rd rs1 rs2 imm zero_rs1 whole) = whole.fits
 known_fits r (is_known_fence rd rs1 rs2 n zero_rs1 whole) = fence_fits rd rs1 rs2 n zero_rs1 whole
 known_fits r (is_known_csr csr ins rd rs1 rs2 imm zero_rs1 whole) = whole.fits
+known_fits r (is_known_sys sys may) = tt
 
 pub fits : (r : Request) → IsMakeableRequest r → RequestFits r
 fits r makeable = known_fits r (known r makeable)

@@ -4,7 +4,6 @@ use Rattle.std.specs.Prelude.{is_none}
 use Rattle.std.proofs.lemmas.List.{map-append}
 use Rattle.rv_fields.specs.Decode.{Decoded, rs1_read}
 use Rattle.rv_fields.specs.Hart.{Registers, updated}
-use Rattle.rv_fields.specs.declared.row_table.Ops.{Ops}
 use Rattle.choice_tree.specs.Draws.{Draws, next_word, skipped}
 use Rattle.hart_task.specs.Acts.{Fixing, fixing_lines}
 use Rattle.hart_task.specs.Stepping.{fixed_in, late_registers}
@@ -60,28 +59,37 @@ task_both t fs gs = λ i. record t {
   log = record t.log { initial = fixed_both t.log.initial fs gs i; present = fixed_both t.log.present fs gs i };
 }
 
-pub late_is : (t : TaskSeen) (d : Decoded) → rs1_read d ≡ d.ops.rs1
-    → late_of t d ≡ late_one t d.ops.rs1 ++ late_one (fixed_task t (late_one t d.ops.rs1)) d.ops.rs2
-late_is t d is = ap (λ r. late_in t.log.present t.draws (cond (eqb r d.ops.rs2) (r ∷ []) (r ∷ d.ops.rs2 ∷ []))) is
-    ∙ both_late t.log.present t.draws d.ops.rs1 d.ops.rs2
+pub late_is : (t : TaskSeen) (d : Decoded) → late_of t (Some d) ≡ late_one t (rs1_read d) ++ late_one (fixed_task t (late_one t (rs1_read d))) d.ops.rs2
+late_is t d = both_late t.log.present t.draws (rs1_read d) d.ops.rs2
 
 -- The task, when both of a word's registers were looked at.
-pub both_fixed : (t : TaskSeen) (d : Decoded) → rs1_read d ≡ d.ops.rs1
-    → fixed_task (fixed_task t (late_one t d.ops.rs1)) (late_one (fixed_task t (late_one t d.ops.rs1)) d.ops.rs2) ≡ fixed_task t (late_of t d)
-both_fixed t d is = sym (ap (fixed_task t) (late_is t d is) ∙ task_both t (late_one t d.ops.rs1) (late_one (fixed_task t (late_one t d.ops.rs1)) d.ops.rs2))
+pub both_fixed : (t : TaskSeen) (d : Decoded)
+    → fixed_task (fixed_task t (late_one t (rs1_read d))) (late_one (fixed_task t (late_one t (rs1_read d))) d.ops.rs2) ≡ fixed_task t (late_of t (Some d))
+both_fixed t d = sym (ap (fixed_task t) (late_is t d) ∙ task_both t (late_one t (rs1_read d)) (late_one (fixed_task t (late_one t (rs1_read d))) d.ops.rs2))
 
 -- and the lines that tell of it
-pub both_told : (t : TaskSeen) (d : Decoded) (h : ℕ) → rs1_read d ≡ d.ops.rs1
-    → fixing_lines h (late_one t d.ops.rs1) ++ fixing_lines h (late_one (fixed_task t (late_one t d.ops.rs1)) d.ops.rs2) ≡ fixing_lines h (late_of t d)
-both_told t d h is = sym (ap (fixing_lines h) (late_is t d is) ∙ map-append _ (late_one t d.ops.rs1) (late_one (fixed_task t (late_one t d.ops.rs1)) d.ops.rs2))
+pub both_told : (t : TaskSeen) (d : Decoded) (h : ℕ)
+    → fixing_lines h (late_one t (rs1_read d)) ++ fixing_lines h (late_one (fixed_task t (late_one t (rs1_read d))) d.ops.rs2) ≡ fixing_lines h (late_of t (Some d))
+both_told t d h = sym (ap (fixing_lines h) (late_is t d) ∙ map-append _ (late_one t (rs1_read d)) (late_one (fixed_task t (late_one t (rs1_read d))) d.ops.rs2))
 
--- The lines of both, where the second register was looked at in the task that the first one left, are those of the word.
-pub lines_told : (t first : TaskSeen) (ops : Ops) (d : Decoded) → first ≡ fixed_task t (late_one t ops.rs1) → ops ≡ d.ops → rs1_read d ≡ d.ops.rs1
-    → fixing_lines t.hart.number (late_one t ops.rs1) ++ fixing_lines first.hart.number (late_one first ops.rs2) ≡ fixing_lines t.hart.number (late_of t d)
-lines_told t first ops d is same row =
-    ap (λ (q : TaskSeen). fixing_lines t.hart.number (late_one t ops.rs1) ++ fixing_lines q.hart.number (late_one q ops.rs2)) is
-    ∙ ap (λ (o : Ops). fixing_lines t.hart.number (late_one t o.rs1) ++ fixing_lines t.hart.number (late_one (fixed_task t (late_one t o.rs1)) o.rs2)) same
-    ∙ both_told t d t.hart.number row
+-- nothing is fixed for a word of no row
+pub none_fixed : (t : TaskSeen) → fixed_task t [] ≡ t
+none_fixed t = let n : t.draws.drawn + 0 ≡ t.draws.drawn = omega arith in λ i. record t { draws = record t.draws { drawn = n i } }
+
+-- What was fixed, register by register, is what the word fixes: the task, and the lines.
+pub task_fixed : (t first second : TaskSeen) (a b : ℕ) (d : Decoded) → a ≡ rs1_read d → b ≡ d.ops.rs2 → first ≡ fixed_task t (late_one t a) → second ≡ fixed_task first (late_one first b)
+    → second ≡ fixed_task t (late_of t (Some d))
+task_fixed t first second a b d is_a is_b once twice =
+    twice ∙ ap (λ q. fixed_task q (late_one q b)) once
+    ∙ (λ i. fixed_task (fixed_task t (late_one t (is_a i))) (late_one (fixed_task t (late_one t (is_a i))) (is_b i)))
+    ∙ both_fixed t d
+
+pub lines_fixed : (t first : TaskSeen) (a b : ℕ) (d : Decoded) → a ≡ rs1_read d → b ≡ d.ops.rs2 → first ≡ fixed_task t (late_one t a)
+    → fixing_lines t.hart.number (late_one t a) ++ fixing_lines first.hart.number (late_one first b) ≡ fixing_lines t.hart.number (late_of t (Some d))
+lines_fixed t first a b d is_a is_b once =
+    ap (λ (q : TaskSeen). fixing_lines t.hart.number (late_one t a) ++ fixing_lines q.hart.number (late_one q b)) once
+    ∙ (λ i. fixing_lines t.hart.number (late_one t (is_a i)) ++ fixing_lines t.hart.number (late_one (fixed_task t (late_one t (is_a i))) (is_b i)))
+    ∙ both_told t d t.hart.number
 
 -- room for some lines is room for fewer
 pub less_room : (event : code.Event) (count fewer : ℕ) → fewer ≤ count → HasRoomForLines count event → HasRoomForLines fewer event

@@ -1,41 +1,47 @@
 -- Where a run leads a hart of a job by the rules: through its window, word by word, a request behind the other.
-use Rattle.std.proofs.Common.{ℕ, ◌+◌, ◌<◌, ◌≤◌, ◌≡◌, Bool, true, false, cond, eqb, eqb-true, List, [], ◌∷◌, length, Option, Some, None, refl, sym, ap, subst, ◌∙◌, arith, lit<}
+use Rattle.std.proofs.Common.{ℕ, ◌+◌, ◌*◌, ◌/◌, ◌%◌, ◌<◌, ◌≤◌, ◌≡◌, Bool, true, false, cond, eqb, eqb-true, List, [], ◌∷◌, length, Option, Some, None, refl, sym, ap, subst, ◌∙◌, arith, lit<, not}
 use Rattle.std.specs.Prelude.{IsTrue, is_none}
 use Rattle.std.specs.List.{AllByRecursion}
 use Rattle.std.specs.Option.{option_map_or}
 use Rattle.std.proofs.lemmas.Bool.Decides.{nat_tests}
 use Rattle.rv_fields.specs.Attempt.{◌>>=◌}
-use Rattle.rv_fields.specs.CsrFile.{written}
-use Rattle.rv_fields.specs.Decode.{Decoded}
+use Rattle.rv_fields.specs.CsrFile.{CsrFile, written}
+use Rattle.rv_fields.specs.Decode.{Decoded, decoded}
 use Rattle.rv_fields.specs.Effect.{Effect}
 use Rattle.rv_fields.specs.Field.{field_of, masked, with_field}
-use Rattle.rv_fields.specs.Hart.{Registers, updated}
+use Rattle.rv_fields.specs.Hart.{Registers, updated, Hart}
 use Rattle.rv_fields.specs.Laws.{StepLeaves}
 use Rattle.rv_fields.specs.Memory.{in_ram}
-use Rattle.rv_fields.specs.Step.{Stepped, behind, step}
+use Rattle.rv_fields.specs.Step.{Stepped, behind, step, trap_taken}
 use Rattle.rv_fields.specs.declared.mode.Mode.TheVariants.{M}
+use Rattle.rv_fields.specs.declared.trap.Trap.{Trap}
 use Rattle.rv_fields.proofs.Opened.{step_leaves}
 use Rattle.region_plan.specs.Plan.{HartPlan, Work, hart_count, no_hart, plan_of}
 use Rattle.region_plan.specs.Request.{Items, Request}
 use Rattle.region_plan.specs.Rules.{IsMakeable, IsMakeableRequest, KeepsRules}
 use Rattle.region_plan.specs.Script.{ScriptItem}
-use Rattle.boot_words.specs.Layout.{code_address}
-use Rattle.boot_words.specs.Startup.{start_mode}
+use Rattle.boot_words.specs.Layout.{code_address, m_handler_at, is_in_handler}
+use Rattle.boot_words.specs.Startup.{start_csrs, start_mode}
+use Rattle.boot_words.proofs.Started.{m_csrs, start_is}
 use Rattle.world_face.specs.Events.{Event}
 use Rattle.world_face.specs.Runs.{Runs}
-use Rattle.hart_task.specs.Acts.{Act, Came, Fixing, begins, event_of, is_last, is_made, steps}
+use Rattle.hart_task.specs.Acts.{Act, Came, Fixing, begins, event_of, is_last, is_made, steps, is_found}
 use Rattle.hart_task.specs.Bus.{word_seen}
 use Rattle.hart_task.specs.Heard.{Heard, heard_of}
 use Rattle.hart_task.specs.OneRun.{RunsTo}
 use Rattle.hart_task.specs.State.{HartState, Loop, Making, Phase, at_end, between, finding, handled, index_of, is_done, making, start}
 use Rattle.hart_task.specs.Stepping.{StepTaken, fixed_in, named_by}
-use Rattle.hart_task.specs.Task.{script}
-use Rattle.hart_task.specs.Turn.{Turned, acted, acts, at_rest, end_word, is_of, last_turn, made_step, meets, next_of, next_turn, rest_in_loop, step_turn, turned, turned_in, with_word}
-use Rattle.hart_task.proofs.Bare.{GoesOn, GoesTo, bare, bare_step, end_decoded, end_jump, ends_on}
-use Rattle.hart_task.proofs.Begins.{IsAsked, asked, begins_is, begun_state, pinned_demand, pinned_word, plain_hart, plain_work, window_is}
+use Rattle.hart_task.specs.Task.{Whose, came_by, done_by, of_end, of_handler, of_request, phase_by, phase_seen, script}
+use Rattle.hart_task.specs.declared.task.Phase.TheVariants as tasks
+use Rattle.hart_task.specs.Turn.{Turned, acted, acts, at_rest, end_word, is_of, last_turn, made_step, meets, next_of, next_turn, rest_in_loop, step_turn, turned, turned_in, with_word, is_out, out_or_on}
+use Rattle.hart_task.proofs.Bare.{GoesOn, Proceeds, bare, bare_step, end_decoded, end_jump, goes_on, is_trapped}
+use Rattle.hart_task.proofs.Begins.{IsAsked, IsPlainWork, asked, begins_is, begun_state, pinned_demand, pinned_word, plain_hart, plain_work, window_is}
+use Rattle.hart_task.proofs.Found.{handler_word}
 use Rattle.hart_task.proofs.Going.{each_late, value_kept}
+use Rattle.hart_task.proofs.Handled.{IsInHandler, traps_there}
+use Rattle.hart_task.proofs.InHandler.{comes_out, finds_so, found_step, goes_through, handler_ins, handler_quiet}
 use Rattle.hart_task.proofs.Makes.{HasSources, IsQuietWord, MakesAt, fixed_hart, index_is, late_by, made_is, sources_told, word_taken}
-use Rattle.hart_task.proofs.Plainly.{own_word_told, zero_kept}
+use Rattle.hart_task.proofs.Plainly.{own_word_told, zero_kept, IsReady}
 
 -- ---- an event is its turn
 
@@ -59,15 +65,28 @@ did_this work s e t does is = (subst (is_of work s.hart.number e) is does, ap (�
 
 -- ---- in the window
 
--- in mode M, when so many words of the window were made, at the next
-pub record IsInWindow (h made : ℕ) (s : HartState) : Type 0 where
+-- behind so many words of its window, and no more steps than these
+pub record HasMade (h made most : ℕ) (s : HartState) : Type 0 where
   pub number : s.hart.number ≡ h
-  pub mode : s.hart.mode ≡ M
   pub zero : s.hart.x 0 ≡ Some 0
   pub loop : s.loop ≡ None
   pub free : (i : ℕ) → made ≤ i → s.words i ≡ None
-  pub steps : s.steps ≡ made
+  pub steps : s.steps ≤ most
+
+-- in mode M, when so many words of the window were made, at the next
+pub record IsInWindow (h made : ℕ) (s : HartState) : Type 0 where
+  pub so_far : HasMade h made (7 * made) s
+  pub mode : s.hart.mode ≡ M
   pub pc : s.hart.pc ≡ code_address h made
+  -- a trap goes to the handler
+  pub handler : s.hart.csrs.mtvec ≡ m_handler_at
+  pub aligned : s.hart.csrs.mepc % 4 ≡ 0
+
+-- in the handler of a trap that the word of this index took: word i of it comes next
+pub record IsInTrap (h index i : ℕ) (s : HartState) : Type 0 where
+  pub so_far : HasMade h (index + 1) (7 * index + 1 + i) s
+  pub early : i < 6
+  pub at : IsInHandler i (code_address h index) s.hart
 
 -- what is left of a template
 pub record AreLeft (k : ℕ) (items : List ScriptItem) : Type 0 where
@@ -84,13 +103,17 @@ low_number work h is = let most = is.keeps.most in omega (arith, most, is.member
 
 pub makes_at : (work : Work) (h made : ℕ) (s : HartState) → IsMember work h → made ≤ 1000 → IsInWindow h made s → MakesAt work s made
 makes_at work h made s is few at = record {
-  plain = (plain_work work s.hart.number is.keeps (subst (λ n. n < hart_count work) (sym at.number) is.member)).plan;
-  few = subst (λ n. n < 16) (sym at.number) (low_number work h is);
+  plain = plain.plan;
+  some_pages = plain.some_pages;
+  few = subst (λ n. n < 16) (sym at.so_far.number) (low_number work h is);
   short = omega (arith, few);
-  free = at.free made (omega arith);
-  pc = at.pc ∙ ap (λ n. code_address n made) (sym at.number);
+  free = at.so_far.free made (omega arith);
+  pc = at.pc ∙ ap (λ n. code_address n made) (sym at.so_far.number);
   mode = at.mode;
 }
+  where
+    plain : IsPlainWork work s.hart.number
+    plain = plain_work work s.hart.number is.keeps (subst (λ n. n < hart_count work) (sym at.so_far.number) is.member)
 
 -- the address behind
 next_pc : (h k : ℕ) → h < 16 → k ≤ 1000 → behind (code_address h k) ≡ code_address h (k + 1)
@@ -102,24 +125,35 @@ next_pc h k low few = omega (arith, low, few)
 abbrev pub stepped_so : HartState → ℕ → Option Decoded → Stepped
 stepped_so s word m = let known : HasSources (fixed_in s.hart.x (late_by s m)) m = sources_told s.hart.x s.draws m in bare_step (fixed_hart s m) word m known.a known.b
 
-in_it : (work : Work) (h made : ℕ) (s : HartState) → IsMember work h → made ≤ 1000 → IsInWindow h made s → in_ram s.hart.pc 4 ≡ true
-in_it work h made s is few at =
+pub ready_in_window : (work : Work) (h made : ℕ) (s : HartState) → IsMember work h → made ≤ 1000 → IsInWindow h made s → IsReady s.hart
+ready_in_window work h made s is few at =
     let low = low_number work h is in
     let pc = at.pc in
-    grind (arith, nat_tests)
+    let inside : in_ram s.hart.pc 4 ≡ true = grind (arith, nat_tests) in
+    record { mode = at.mode; in_it = subst IsTrue (sym inside) refl; aligned = omega (arith, pc); small = omega (arith, pc, low, few) }
+
+pub ready_in_trap : (h index i : ℕ) (s : HartState) → IsInTrap h index i s → IsReady s.hart
+ready_in_trap h index i s at =
+    let pc = at.at.pc in
+    let early = at.early in
+    let inside : in_ram s.hart.pc 4 ≡ true = grind (arith, nat_tests) in
+    record { mode = at.at.mode; in_it = subst IsTrue (sym inside) refl; aligned = omega (arith, pc); small = omega (arith, pc, early) }
 
 -- it is done where nothing but the word is told of memory
-pub steps_so : (work : Work) (h made : ℕ) (s : HartState) (word : ℕ) (m : Option Decoded) → IsMember work h → made ≤ 1000 → IsInWindow h made s → IsQuietWord word m
-    → step (word_seen s.hart.pc word) (fixed_hart s m) ≡ Some (stepped_so s word m)
-steps_so work h made s word m is few at quiet =
+pub steps_so : (s : HartState) (word : ℕ) (m : Option Decoded) → IsReady s.hart → IsQuietWord word m → step (word_seen s.hart.pc word) (fixed_hart s m) ≡ Some (stepped_so s word m)
+steps_so s word m ready quiet =
     let known : HasSources (fixed_in s.hart.x (late_by s m)) m = sources_told s.hart.x s.draws m in
-    bare (word_seen s.hart.pc word) (fixed_hart s m) word m known.a known.b at.mode
-    (own_word_told s.hart.pc word (subst IsTrue (sym (in_it work h made s is few at)) refl) quiet.small) quiet.row quiet.bare known.told
+    bare (word_seen s.hart.pc word) (fixed_hart s m) word m known.a known.b ready.mode (own_word_told s.hart.pc word ready.in_it quiet.small) quiet.row quiet.bare known.told
 
-pub leaves_so : (work : Work) (h made : ℕ) (s : HartState) (word : ℕ) (m : Option Decoded) → IsMember work h → made ≤ 1000 → IsInWindow h made s → IsQuietWord word m
-    → StepLeaves (fixed_hart s m) (stepped_so s word m)
-leaves_so work h made s word m is few at quiet =
-    step_leaves (word_seen s.hart.pc word) (fixed_hart s m) (stepped_so s word m) (steps_so work h made s word m is few at quiet)
+pub leaves_so : (s : HartState) (word : ℕ) (m : Option Decoded) → IsReady s.hart → IsQuietWord word m → StepLeaves (fixed_hart s m) (stepped_so s word m)
+leaves_so s word m ready quiet = step_leaves (word_seen s.hart.pc word) (fixed_hart s m) (stepped_so s word m) (steps_so s word m ready quiet)
+
+zero_behind : (s : HartState) (word : ℕ) (m : Option Decoded) → IsReady s.hart → IsQuietWord word m → s.hart.x 0 ≡ Some 0 → (stepped_so s word m).hart.x 0 ≡ Some 0
+zero_behind s word m ready quiet zero =
+    let fixed : Registers = fixed_in s.hart.x (late_by s m) in
+    ap (λ (f : Registers). f 0) (leaves_so s word m ready quiet).registers
+    ∙ zero_kept fixed (word_seen s.hart.pc word) (fixed_hart s m) (stepped_so s word m) (steps_so s word m ready quiet)
+    ∙ value_kept s.hart.x s.hart.x (late_by s m) 0 0 (each_late s.hart.x s.draws (named_by m)) zero zero
 
 -- and the log's hart makes it
 makes_so : (work : Work) (h made : ℕ) (s : HartState) (heard : Heard) (word : ℕ) (m : Option Decoded) → IsMember work h → made ≤ 1000 → IsInWindow h made s → IsQuietWord word m
@@ -128,40 +162,69 @@ makes_so work h made s heard word m is few at quiet =
     let known : HasSources (fixed_in s.hart.x (late_by s m)) m = sources_told s.hart.x s.draws m in
     made_is work s heard made word m known.a known.b (makes_at work h made s is few at) quiet known.told
 
--- the state behind it, but for its phase
-abbrev pub behind_word : Work → HartState → ℕ → Option Decoded → HartState
-behind_word work s word m = (word_taken (with_word work s word) m (stepped_so s word m)).state
+-- the state behind a step, with these words of the window
+abbrev pub state_with : HartState → ℕ → Option Decoded → (ℕ → Option ℕ) → Phase → HartState
+state_with s word m words phase = record (word_taken s m (stepped_so s word m)).state { words = words; phase = phase }
+
+abbrev pub words_made_at : Work → HartState → ℕ → ℕ → Option ℕ
+words_made_at work s word = updated s.words (index_of work s) (Some word)
 
 abbrev pub stepping : Came → Option ℕ → List Fixing → Effect → Act
 stepping came ends late effect = steps (record { came = came; registers = late; bytes = []; effect = effect; wanted = None; probe = None; ends = ends })
 
-pub zero_behind : (work : Work) (h made : ℕ) (s : HartState) (word : ℕ) (m : Option Decoded) → IsMember work h → made ≤ 1000 → IsInWindow h made s → IsQuietWord word m
-    → (stepped_so s word m).hart.x 0 ≡ Some 0
-zero_behind work h made s word m is few at quiet =
-    let fixed : Registers = fixed_in s.hart.x (late_by s m) in
-    ap (λ (f : Registers). f 0) (leaves_so work h made s word m is few at quiet).registers
-    ∙ zero_kept fixed (word_seen s.hart.pc word) (fixed_hart s m) (stepped_so s word m) (steps_so work h made s word m is few at quiet)
-    ∙ value_kept s.hart.x s.hart.x (late_by s m) 0 0 (each_late s.hart.x s.draws (named_by m)) at.zero at.zero
+-- what the hart does there
+abbrev pub stepped_turn : HartState → Whose → ℕ → Option Decoded → (ℕ → Option ℕ) → Turned
+stepped_turn s whose word m words =
+    let e : Effect = (stepped_so s word m).effect in
+    record { act = stepping (came_by whose) (done_by whose e.trap) (late_by s m) e; state = state_with s word m words (phase_seen (phase_by whose e.trap)) }
 
 -- one word more was made
-pub window_behind : (work : Work) (h made : ℕ) (s : HartState) (word : ℕ) (m : Option Decoded) (phase : Phase) → IsMember work h → made ≤ 1000 → IsInWindow h made s → IsQuietWord word m
-    → GoesOn (fixed_hart s m) (stepped_so s word m) → IsInWindow h (made + 1) (record (behind_word work s word m) { phase = phase })
-window_behind work h made s word m phase is few at quiet on = record {
-  number = (leaves_so work h made s word m is few at quiet).number ∙ at.number;
-  mode = on.mode ∙ at.mode;
-  zero = zero_behind work h made s word m is few at quiet;
-  loop = at.loop;
+made_more : (work : Work) (h made : ℕ) (s : HartState) (word : ℕ) (m : Option Decoded) (phase : Phase) → IsMember work h → made ≤ 1000 → IsInWindow h made s → IsQuietWord word m
+    → HasMade h (made + 1) (7 * made + 1) (state_with s word m (words_made_at work s word) phase)
+made_more work h made s word m phase is few at quiet = record {
+  number = (leaves_so s word m ready quiet).number ∙ at.so_far.number;
+  zero = zero_behind s word m ready quiet at.so_far.zero;
+  loop = at.so_far.loop;
   free = λ i late. ap (λ index. updated s.words index (Some word) i) index ∙ free_above i late (eqb i made) refl;
-  steps = ap (λ n. n + 1) at.steps;
-  pc = on.pc_is ∙ ap behind at.pc ∙ next_pc h made (low_number work h is) few;
+  steps = let steps = at.so_far.steps in omega (arith, steps);
 }
   where
+    ready : IsReady s.hart
+    ready = ready_in_window work h made s is few at
+
     index : index_of work s ≡ made
     index = index_is work s made (makes_at work h made s is few at)
 
     free_above : (i : ℕ) → made + 1 ≤ i → (t : Bool) → t ≡ eqb i made → cond t (Some word) (s.words i) ≡ None
     free_above i late true e = absurd (let same : i ≡ made = eqb-true i made (sym e) in omega (arith, same, late))
-    free_above i late false e = at.free i (omega (arith, late))
+    free_above i late false e = at.so_far.free i (omega (arith, late))
+
+-- the hart goes on at the next word
+window_behind : (work : Work) (h made : ℕ) (s : HartState) (word : ℕ) (m : Option Decoded) (phase : Phase) → IsMember work h → made ≤ 1000 → IsInWindow h made s → IsQuietWord word m
+    → GoesOn (fixed_hart s m) (stepped_so s word m) → IsInWindow h (made + 1) (state_with s word m (words_made_at work s word) phase)
+window_behind work h made s word m phase is few at quiet on =
+    let more = made_more work h made s word m phase is few at quiet in
+    record {
+      so_far = record { number = more.number; zero = more.zero; loop = more.loop; free = more.free; steps = let steps = more.steps in omega (arith, steps) };
+      mode = on.mode ∙ at.mode;
+      pc = on.pc_is ∙ ap behind at.pc ∙ next_pc h made (low_number work h is) few;
+      handler = on.way.0 ∙ at.handler;
+      aligned = ap (λ n. n % 4) on.way.1 ∙ at.aligned;
+    }
+
+-- or in the handler
+trap_behind : (work : Work) (h made : ℕ) (s : HartState) (word : ℕ) (m : Option Decoded) (phase : Phase) (cause tval : ℕ) → IsMember work h → made ≤ 1000 → IsInWindow h made s → IsQuietWord word m
+    → stepped_so s word m ≡ trap_taken (fixed_hart s m) (Some s.hart.pc) (Some word) cause tval [] → IsInTrap h made 0 (state_with s word m (words_made_at work s word) phase)
+trap_behind work h made s word m phase cause tval is few at quiet trapped =
+    let ready = ready_in_window work h made s is few at in
+    let there = traps_there (fixed_hart s m) (Some s.hart.pc) (Some word) cause tval at.mode at.handler at.aligned ready.aligned ready.small in
+    let more = made_more work h made s word m phase is few at quiet in
+    record {
+      so_far = record { number = more.number; zero = more.zero; loop = more.loop; free = more.free; steps = let steps = more.steps in omega (arith, steps) };
+      early = lit< tt;
+      at = subst (λ (q : Stepped). IsInHandler 0 (code_address h made) q.hart) (sym trapped)
+          (subst (λ epc. IsInHandler 0 epc (trap_taken (fixed_hart s m) (Some s.hart.pc) (Some word) cause tval []).hart) at.pc there);
+    }
 
 -- ---- between two requests
 
@@ -183,6 +246,14 @@ pub record IsUnderWay (h k : ℕ) (r : Request) (items : List ScriptItem) (s : H
   pub window : IsInWindow h k s
   pub ahead : AreLeft (k + 1) items
 
+-- the handler of the request's trap is stepped
+pub record IsHandling (h k i : ℕ) (items : List ScriptItem) (s : HartState) : Type 0 where
+  pub phase : s.phase ≡ finding k handled
+  pub left : s.left ≡ items
+  pub count : s.count ≡ k + 1
+  pub trap : IsInTrap h k i s
+  pub ahead : AreLeft (k + 1) items
+
 -- the next request begins
 pub begins_so : (work : Work) (h k : ℕ) (item : ScriptItem) (rest : List ScriptItem) (s : HartState) (heard : Heard) → IsMember work h → IsBetween h k (item ∷ rest) s
     → turned work s heard ≡ Some (record {
@@ -194,63 +265,208 @@ begins_so work h k item rest s heard is at =
     let room = at.ahead.room in
     let few : k ≤ 1000 = omega (arith, room) in
     let index : index_of work s ≡ k = index_is work s k (makes_at work h k s is few window) in
-    begins_is work s heard item rest is.keeps (subst (λ n. n < hart_count work) (sym window.number) is.member) at.phase window.loop at.left at.ahead.makeable.0
-    (let steps = window.steps in omega (arith, steps, few)) (omega (arith, index, room))
+    begins_is work s heard item rest is.keeps (subst (λ n. n < hart_count work) (sym window.so_far.number) is.member) at.phase window.so_far.loop at.left at.ahead.makeable.0
+    (let steps = window.so_far.steps in omega (arith, steps, few)) (omega (arith, index, room))
 
 pub begun_under_way : (h k : ℕ) (item : ScriptItem) (rest : List ScriptItem) (s : HartState) → IsBetween h k (item ∷ rest) s → IsUnderWay h k item.request rest (begun_state s item rest)
-begun_under_way h k item rest s at = record {
-  phase = ap (λ n. making_word n item.request) at.count;
-  makeable = at.ahead.makeable.0.0;
-  left = refl;
-  count = ap (λ n. n + 1) at.count;
-  window = record {
-    number = at.window.number;
-    mode = at.window.mode;
-    zero = at.window.zero;
-    loop = at.window.loop;
-    free = at.window.free;
-    steps = at.window.steps;
-    pc = at.window.pc;
-  };
-  ahead = record { room = let room = at.ahead.room in omega (arith, room); makeable = at.ahead.makeable.1 };
-}
+begun_under_way h k item rest s at =
+    let so_far = at.window.so_far in
+    record {
+      phase = ap (λ n. making_word n item.request) at.count;
+      makeable = at.ahead.makeable.0.0;
+      left = refl;
+      count = ap (λ n. n + 1) at.count;
+      window = record {
+        so_far = record { number = so_far.number; zero = so_far.zero; loop = so_far.loop; free = so_far.free; steps = so_far.steps };
+        mode = at.window.mode;
+        pc = at.window.pc;
+        handler = at.window.handler;
+        aligned = at.window.aligned;
+      };
+      ahead = record { room = let room = at.ahead.room in omega (arith, room); makeable = at.ahead.makeable.1 };
+    }
 
 -- ---- its word is made
 
-pub made_so : (work : Work) (h k : ℕ) (r : Request) (items : List ScriptItem) (s : HartState) (heard : Heard) (d : Decoded) (q : IsAsked r d) → IsMember work h → IsUnderWay h k r items s
-    → turned work s heard ≡ Some (record {
-      act = stepping is_made (Some k) (late_by s (Some d)) (stepped_so s (pinned_word r) (Some d)).effect;
-      state = record (behind_word work s (pinned_word r) (Some d)) { phase = between };
-    })
-made_so work h k r items s heard d q is at =
+-- it is done then, or its handler comes first
+pub made_so : (work : Work) (h k : ℕ) (r : Request) (items : List ScriptItem) (s : HartState) (heard : Heard) → IsAsked r → IsMember work h → IsUnderWay h k r items s
+    → turned work s heard ≡ Some (stepped_turn s (of_request k) (pinned_word r) (decoded (pinned_word r)) (words_made_at work s (pinned_word r)))
+made_so work h k r items s heard q is at =
     ap (turned_in work s heard) at.phase
-    ∙ ap (λ (made : Option StepTaken). made >>= goes_by) (makes_so work h k s heard (pinned_word r) (Some d) is few at.window q.quiet)
-    ∙ ap (λ trap. cond (meets (pinned_demand r) trap) (Some (last_turn work k (is_done (pinned_demand r)) None taken)) None) on.trap
-    ∙ ap (λ t. cond t (Some (last_turn work k (is_done (pinned_demand r)) None taken)) None) q.demands
-    ∙ ap (λ t. Some (cond t (step_turn is_made None (Some k) taken (at_rest work taken.state)) (step_turn is_made None None taken (record taken.state { phase = finding k handled })))) (ap is_none on.trap)
-    ∙ ap (λ o. Some (step_turn is_made None (Some k) taken (option_map_or (λ (l : Loop). rest_in_loop work taken.state l l.body) o (record taken.state { phase = between })))) at.window.loop
+    ∙ ap (λ (made : Option StepTaken). made >>= goes_by) (makes_so work h k s heard word m is few at.window q.quiet)
+    ∙ ap (λ t. cond t (Some (last_turn work k (is_done (pinned_demand r)) None taken)) None) (q.demands (fixed_hart s m) _ _ at.window.mode)
+    ∙ ap Some (of taken.effect.trap)
   where
     few : k ≤ 1000
     few = let room = at.ahead.room in omega (arith, room)
 
-    taken : StepTaken
-    taken = word_taken (with_word work s (pinned_word r)) (Some d) (stepped_so s (pinned_word r) (Some d))
+    word : ℕ
+    word = pinned_word r
 
-    on : GoesOn (fixed_hart s (Some d)) (stepped_so s (pinned_word r) (Some d))
-    on = q.goes (fixed_hart s (Some d)) _ _ at.window.mode
+    m : Option Decoded
+    m = decoded word
+
+    taken : StepTaken
+    taken = word_taken (with_word work s word) m (stepped_so s word m)
 
     goes_by : StepTaken → Option Turned
     goes_by t = cond (meets (pinned_demand r) t.effect.trap) (Some (last_turn work k (is_done (pinned_demand r)) None t)) None
 
-pub made_between : (work : Work) (h k : ℕ) (r : Request) (items : List ScriptItem) (s : HartState) (d : Decoded) (q : IsAsked r d) → IsMember work h → IsUnderWay h k r items s
-    → IsBetween h (k + 1) items (record (behind_word work s (pinned_word r) (Some d)) { phase = between })
-made_between work h k r items s d q is at = record {
-  phase = refl;
-  left = at.left;
-  count = at.count;
-  window = window_behind work h k s (pinned_word r) (Some d) between is (let room = at.ahead.room in omega (arith, room)) at.window q.quiet (q.goes (fixed_hart s (Some d)) _ _ at.window.mode);
-  ahead = at.ahead;
-}
+    of : (trap : Option Trap)
+        → cond (is_none trap) (step_turn is_made None (Some k) taken (at_rest work taken.state)) (step_turn is_made None None taken (record taken.state { phase = finding k handled }))
+        ≡ record {
+          act = stepping is_made (done_by (of_request k) trap) (late_by s m) taken.effect;
+          state = record taken.state { phase = phase_seen (phase_by (of_request k) trap) };
+        }
+    of None = ap (λ o. step_turn is_made None (Some k) taken (option_map_or (λ (l : Loop). rest_in_loop work taken.state l l.body) o (record taken.state { phase = between }))) at.window.so_far.loop
+    of (Some trap) = refl
+
+-- the hart behind it
+pub data IsBehind (h k : ℕ) (items : List ScriptItem) (trap : Option Trap) (s : HartState) : Type 0 where
+  is_between : trap ≡ None → IsBetween h (k + 1) items s → IsBehind h k items trap s
+  is_handling : (t : Trap) → trap ≡ Some t → IsHandling h k 0 items s → IsBehind h k items trap s
+
+trap_of : (hart : Hart) (pa word : Option ℕ) (cause tval : ℕ) (s : Stepped) → s ≡ trap_taken hart pa word cause tval [] → (t : Trap) × (s.effect.trap ≡ Some t)
+unfolding trap_taken
+trap_of hart pa word cause tval s is = (_, ap (λ (q : Stepped). q.effect.trap) is)
+
+pub made_behind : (work : Work) (h k : ℕ) (r : Request) (items : List ScriptItem) (s : HartState) → IsAsked r → IsMember work h → IsUnderWay h k r items s
+    → let m : Option Decoded = decoded (pinned_word r) in
+    IsBehind h k items (stepped_so s (pinned_word r) m).effect.trap (stepped_turn s (of_request k) (pinned_word r) m (words_made_at work s (pinned_word r))).state
+made_behind work h k r items s q is at = of (q.proceeds (fixed_hart s m) _ _ at.window.mode)
+  where
+    few : k ≤ 1000
+    few = let room = at.ahead.room in omega (arith, room)
+
+    word : ℕ
+    word = pinned_word r
+
+    m : Option Decoded
+    m = decoded word
+
+    trap : Option Trap
+    trap = (stepped_so s word m).effect.trap
+
+    there : HartState
+    there = (stepped_turn s (of_request k) word m (words_made_at work s word)).state
+
+    of : Proceeds (fixed_hart s m) word (stepped_so s word m) → IsBehind h k items trap there
+    of (goes_on on) = is_between on.trap (record {
+      phase = ap (λ t. phase_seen (phase_by (of_request k) t)) on.trap;
+      left = at.left;
+      count = at.count;
+      window = window_behind work h k s word m (phase_seen (phase_by (of_request k) trap)) is few at.window q.quiet on;
+      ahead = at.ahead;
+    })
+    of (is_trapped cause tval trapped) =
+        let t = trap_of (fixed_hart s m) (Some s.hart.pc) (Some word) cause tval (stepped_so s word m) trapped in
+        is_handling t.0 t.1 (record {
+          phase = ap (λ t. phase_seen (phase_by (of_request k) t)) t.1;
+          left = at.left;
+          count = at.count;
+          trap = trap_behind work h k s word m (phase_seen (phase_by (of_request k) trap)) cause tval is few at.window q.quiet trapped;
+          ahead = at.ahead;
+        })
+
+-- ---- a word of the handler is found
+
+-- the hart is out behind the last
+out_behind : (h k i : ℕ) (s : HartState) → h < 16 → k ≤ 1000 → IsInTrap h k i s → is_out handled (found_step s i).hart ≡ eqb i 5
+out_behind h k i s low few at = of (eqb i 5) refl
+  where
+    goes : i < 5 → is_out handled (found_step s i).hart ≡ false
+    goes early =
+        let next = goes_through s i (code_address h k) early (omega arith) (omega (arith, low, few)) at.at in
+        let pc = next.pc in
+        let inside : eqb ((found_step s i).hart.pc / 4096) (m_handler_at / 4096) ≡ true = grind (arith, nat_tests) in
+        ap (λ mode. not (is_in_handler mode (found_step s i).hart.pc)) next.mode ∙ ap not inside
+
+    comes : i ≡ 5 → is_out handled (found_step s i).hart ≡ true
+    comes last =
+        let out = comes_out s (code_address h k) (subst (λ n. IsInHandler n (code_address h k) s.hart) last at.at) in
+        let pc = out.pc in
+        let outside : eqb ((found_step s 5).hart.pc / 4096) (m_handler_at / 4096) ≡ false = grind (arith, nat_tests) in
+        ap (λ n. is_out handled (found_step s n).hart) last ∙ ap (λ mode. not (is_in_handler mode (found_step s 5).hart.pc)) out.mode ∙ ap not outside
+
+    of : (t : Bool) → t ≡ eqb i 5 → is_out handled (found_step s i).hart ≡ t
+    of true e = comes (eqb-true i 5 (sym e))
+    of false e = goes (let early = at.early in grind (arith, nat_tests))
+
+pub found_so : (work : Work) (h k i : ℕ) (items : List ScriptItem) (s : HartState) (heard : Heard) → IsMember work h → IsHandling h k i items s
+    → turned work s heard ≡ Some (stepped_turn s (of_handler k i) (handler_word i) (Some (handler_ins i)) s.words)
+found_so work h k i items s heard is at =
+    ap (turned_in work s heard) at.phase
+    ∙ ap (λ (found : Option StepTaken). found >>= goes_by) (finds_so work s heard i (code_address h k) at.trap.early at.trap.at)
+    ∙ ap (λ t. Some (cond t (step_turn is_found None (Some k) taken (at_rest work taken.state)) (step_turn is_found None None taken (record taken.state { phase = finding k handled }))))
+    (out_behind h k i s (low_number work h is) (let room = at.ahead.room in omega (arith, room)) at.trap)
+    ∙ ap Some (of (eqb i 5))
+  where
+    taken : StepTaken
+    taken = word_taken s (Some (handler_ins i)) (found_step s i)
+
+    goes_by : StepTaken → Option Turned
+    goes_by t = Some (out_or_on is_found work k handled t t.state)
+
+    of : (t : Bool)
+        → cond t (step_turn is_found None (Some k) taken (at_rest work taken.state)) (step_turn is_found None None taken (record taken.state { phase = finding k handled }))
+        ≡ record {
+          act = stepping is_found (cond t (Some k) None) (late_by s (Some (handler_ins i))) taken.effect;
+          state = record taken.state { phase = phase_seen (cond t tasks.Between (tasks.Handling (record { k = k; next = i + 1 }))) };
+        }
+    of true = ap (λ o. step_turn is_found None (Some k) taken (option_map_or (λ (l : Loop). rest_in_loop work taken.state l l.body) o (record taken.state { phase = between }))) at.trap.so_far.loop
+    of false = refl
+
+-- no word was made by it
+found_more : (h k i : ℕ) (s : HartState) (phase : Phase) → IsInTrap h k i s → HasMade h (k + 1) (7 * k + 2 + i) (state_with s (handler_word i) (Some (handler_ins i)) s.words phase)
+found_more h k i s phase at =
+    let ready = ready_in_trap h k i s at in
+    let quiet = handler_quiet i at.early in
+    record {
+      number = (leaves_so s (handler_word i) (Some (handler_ins i)) ready quiet).number ∙ at.so_far.number;
+      zero = zero_behind s (handler_word i) (Some (handler_ins i)) ready quiet at.so_far.zero;
+      loop = at.so_far.loop;
+      free = at.so_far.free;
+      steps = let steps = at.so_far.steps in omega (arith, steps);
+    }
+
+-- the hart behind it: at the next word of the handler, or behind the word that trapped
+pub found_on : (work : Work) (h k i : ℕ) (items : List ScriptItem) (s : HartState) → IsMember work h → i < 5 → IsHandling h k i items s
+    → IsHandling h k (i + 1) items (stepped_turn s (of_handler k i) (handler_word i) (Some (handler_ins i)) s.words).state
+found_on work h k i items s is early at =
+    let room = at.ahead.room in
+    let low = low_number work h is in
+    let other : eqb i 5 ≡ false = grind (arith, nat_tests) in
+    let more = found_more h k i s (phase_seen (phase_by (of_handler k i) (found_step s i).effect.trap)) at.trap in
+    record {
+      phase = ap (λ t. phase_seen (cond t tasks.Between (tasks.Handling (record { k = k; next = i + 1 })))) other;
+      left = at.left;
+      count = at.count;
+      trap = record {
+        so_far = record { number = more.number; zero = more.zero; loop = more.loop; free = more.free; steps = let steps = more.steps in omega (arith, steps) };
+        early = omega (arith, early);
+        at = goes_through s i (code_address h k) early (omega arith) (omega (arith, low, room)) at.trap.at;
+      };
+      ahead = at.ahead;
+    }
+
+pub found_out : (work : Work) (h k : ℕ) (items : List ScriptItem) (s : HartState) → IsMember work h → IsHandling h k 5 items s
+    → IsBetween h (k + 1) items (stepped_turn s (of_handler k 5) (handler_word 5) (Some (handler_ins 5)) s.words).state
+found_out work h k items s is at =
+    let out = comes_out s (code_address h k) at.trap.at in
+    let more = found_more h k 5 s between at.trap in
+    record {
+      phase = refl;
+      left = at.left;
+      count = at.count;
+      window = record {
+        so_far = record { number = more.number; zero = more.zero; loop = more.loop; free = more.free; steps = let steps = more.steps in omega (arith, steps) };
+        mode = out.mode;
+        pc = out.pc ∙ omega arith;
+        handler = out.handler;
+        aligned = ap (λ n. n % 4) out.kept ∙ omega arith;
+      };
+      ahead = at.ahead;
+    }
 
 -- ---- the ending step
 
@@ -258,49 +474,72 @@ pub end_quiet : IsQuietWord end_word (Some end_jump)
 end_quiet = record { small = lit< tt; row = end_decoded; bare = refl; closed = refl }
 
 pub ends_so : (work : Work) (h k : ℕ) (s : HartState) (heard : Heard) → IsMember work h → IsBetween h k [] s
-    → turned work s heard ≡ Some (record {
-      act = stepping is_last None (late_by s (Some end_jump)) (stepped_so s end_word (Some end_jump)).effect;
-      state = record (behind_word work s end_word (Some end_jump)) { phase = at_end };
-    })
+    → turned work s heard ≡ Some (stepped_turn s of_end end_word (Some end_jump) (words_made_at work s end_word))
 ends_so work h k s heard is at =
     ap (turned_in work s heard) at.phase
-    ∙ ap (λ l. next_turn work s heard (next_of s l s.left)) at.window.loop
+    ∙ ap (λ l. next_turn work s heard (next_of s l s.left)) at.window.so_far.loop
     ∙ ap (λ left. next_turn work s heard (next_of s None left)) at.left
     ∙ ap (λ (made : Option StepTaken). made >>= last_by) (makes_so work h k s heard end_word (Some end_jump) is (let room = at.ahead.room in omega (arith, room)) at.window end_quiet)
   where
     last_by : StepTaken → Option Turned
     last_by t = Some (step_turn is_last None None t (record t.state { phase = at_end }))
 
--- it stays there
-pub end_stays : (work : Work) (h k : ℕ) (s : HartState) → IsMember work h → IsBetween h k [] s → GoesTo (fixed_hart s (Some end_jump)) s.hart.pc (stepped_so s end_word (Some end_jump))
-end_stays work h k s is at =
-    let low = low_number work h is in
-    let pc = at.window.pc in
-    let room = at.ahead.room in
-    let known : HasSources (fixed_in s.hart.x (late_by s (Some end_jump))) (Some end_jump) = sources_told s.hart.x s.draws (Some end_jump) in
-    ends_on (fixed_hart s (Some end_jump)) known.a known.b (omega (arith, pc)) (omega (arith, pc, low, room))
-
 -- ---- a run
 
--- it rests between requests, its request's word is made, or it rests for good
+-- It rests between requests, its request's word is made, or the handler of that is stepped, or it rests for good.
 pub data IsLed (h : ℕ) (s : HartState) : Type 0 where
   rests : (k : ℕ) (items : List ScriptItem) → IsBetween h k items s → IsLed h s
   works : (k : ℕ) (r : Request) (items : List ScriptItem) → IsUnderWay h k r items s → IsLed h s
-  rests_for_good : s.phase ≡ at_end → IsLed h s
+  is_handled : (k i : ℕ) (items : List ScriptItem) → IsHandling h k i items s → IsLed h s
+  rests_for_good : s.phase ≡ at_end → s.count ≤ 1000 → s.steps ≤ 7001 → IsLed h s
 
 -- a finished hart does nothing more
 pub none_behind : (work : Work) (s : HartState) (e : Event) → s.phase ≡ at_end → acts work s e → ⊥
 none_behind work s e at does = subst (λ phase. is_of work s.hart.number e (turned_in work s (heard_of e) phase)) at does
 
+led_behind : (h k : ℕ) (items : List ScriptItem) (trap : Option Trap) (s : HartState) → IsBehind h k items trap s → IsLed h s
+led_behind h k items trap s (is_between none at) = rests (k + 1) items at
+led_behind h k items trap s (is_handling t some at) = is_handled k 0 items at
+
+led_found : (work : Work) (h k i : ℕ) (items : List ScriptItem) (s : HartState) → IsMember work h → IsHandling h k i items s
+    → IsLed h (stepped_turn s (of_handler k i) (handler_word i) (Some (handler_ins i)) s.words).state
+led_found work h k i items s is at = of (eqb i 5) refl
+  where
+    of : (t : Bool) → t ≡ eqb i 5 → IsLed h (stepped_turn s (of_handler k i) (handler_word i) (Some (handler_ins i)) s.words).state
+    of true e =
+        let last : 5 ≡ i = sym (eqb-true i 5 (sym e)) in
+        subst (λ n. IsLed h (stepped_turn s (of_handler k n) (handler_word n) (Some (handler_ins n)) s.words).state) last
+        (rests (k + 1) items (found_out work h k items s is (subst (λ n. IsHandling h k n items s) (sym last) at)))
+    of false e = is_handled k (i + 1) items (found_on work h k i items s is (let early = at.trap.early in grind (arith, nat_tests)) at)
+
 led_on : (work : Work) (h : ℕ) (s : HartState) (e : Event) → IsMember work h → IsLed h s → acts work s e → IsLed h (acted work s e)
 led_on work h s e is (rests k [] at) does =
-    rests_for_good (ap (λ (q : HartState). q.phase) (did_this work s e _ does (ends_so work h k s (heard_of e) is at)).1)
+    let this = did_this work s e _ does (ends_so work h k s (heard_of e) is at) in
+    let room = at.ahead.room in
+    let steps = at.window.so_far.steps in
+    subst (IsLed h) (sym this.1) (rests_for_good refl (omega (arith, at.count, room)) (omega (arith, steps, room)))
 led_on work h s e is (rests k (item ∷ rest) at) does =
     subst (IsLed h) (sym (did_this work s e _ does (begins_so work h k item rest s (heard_of e) is at)).1) (works k item.request rest (begun_under_way h k item rest s at))
 led_on work h s e is (works k r items at) does =
     let q = asked r at.makeable in
-    subst (IsLed h) (sym (did_this work s e _ does (made_so work h k r items s (heard_of e) q.0 q.1 is at)).1) (rests (k + 1) items (made_between work h k r items s q.0 q.1 is at))
-led_on work h s e is (rests_for_good at) does = absurd (none_behind work s e at does)
+    subst (IsLed h) (sym (did_this work s e _ does (made_so work h k r items s (heard_of e) q is at)).1) (led_behind h k items _ _ (made_behind work h k r items s q is at))
+led_on work h s e is (is_handled k i items at) does =
+    subst (IsLed h) (sym (did_this work s e _ does (found_so work h k i items s (heard_of e) is at)).1) (led_found work h k i items s is at)
+led_on work h s e is (rests_for_good at few short) does = absurd (none_behind work s e at does)
+
+-- a request is begun, and a step taken, no more often than this
+pub led_few : (h : ℕ) (s : HartState) → IsLed h s → (s.count ≤ 1000) × (s.steps ≤ 7001)
+led_few h s (rests k items at) =
+    let room = at.ahead.room in
+    let steps = at.window.so_far.steps in (omega (arith, at.count, room), omega (arith, steps, room))
+led_few h s (works k r items at) =
+    let room = at.ahead.room in
+    let steps = at.window.so_far.steps in (omega (arith, at.count, room), omega (arith, steps, room))
+led_few h s (is_handled k i items at) =
+    let room = at.ahead.room in
+    let early = at.trap.early in
+    let steps = at.trap.so_far.steps in (omega (arith, at.count, room), omega (arith, steps, room, early))
+led_few h s (rests_for_good at few short) = (few, short)
 
 -- a hart that makes a word is at work on its request
 pub under_way : (h k : ℕ) (r : Request) (s : HartState) → IsLed h s → s.phase ≡ making_word k r → IsMakeableRequest r → (items : List ScriptItem) × IsUnderWay h k r items s
@@ -319,7 +558,17 @@ under_way h k r s (works j q items at) phase makeable =
         ahead = subst (λ n. AreLeft (n + 1) items) same at.ahead;
       },
     )
-under_way h k r s (rests_for_good at) phase makeable = absurd (let no : at_end ≡ making_word k r = sym at ∙ phase in cc)
+under_way h k r s (is_handled j i items at) phase makeable = absurd (let no : finding j handled ≡ making_word k r = sym at.phase ∙ phase in cc)
+under_way h k r s (rests_for_good at few short) phase makeable = absurd (let no : at_end ≡ making_word k r = sym at ∙ phase in cc)
+
+-- one that steps a handler is in it
+pub handled_there : (h k : ℕ) (s : HartState) → IsLed h s → s.phase ≡ finding k handled → (i : ℕ) × (items : List ScriptItem) × IsHandling h k i items s
+handled_there h k s (rests j items at) phase = absurd (let no : between ≡ finding k handled = sym at.phase ∙ phase in cc)
+handled_there h k s (works j r items at) phase = absurd (let no : making_word j r ≡ finding k handled = sym at.phase ∙ phase in cc)
+handled_there h k s (is_handled j i items at) phase =
+    let both : finding j handled ≡ finding k handled = sym at.phase ∙ phase in
+    let same : j ≡ k = cc in (i, items, subst (λ n. IsHandling h n i items s) same at)
+handled_there h k s (rests_for_good at few short) phase = absurd (let no : at_end ≡ finding k handled = sym at ∙ phase in cc)
 
 pub at_rest_there : (h : ℕ) (items : List ScriptItem) (s : HartState) → IsLed h s → s.phase ≡ between → s.left ≡ items → IsBetween h s.count items s
 at_rest_there h items s (rests k left at) phase is = record {
@@ -330,33 +579,40 @@ at_rest_there h items s (rests k left at) phase is = record {
   ahead = subst (λ n. AreLeft n items) (sym at.count) (subst (AreLeft k) (sym at.left ∙ is) at.ahead);
 }
 at_rest_there h items s (works k r left at) phase is = absurd (let no : making_word k r ≡ between = sym at.phase ∙ phase in cc)
-at_rest_there h items s (rests_for_good at) phase is = absurd (let no : at_end ≡ between = sym at ∙ phase in cc)
+at_rest_there h items s (is_handled k i left at) phase is = absurd (let no : finding k handled ≡ between = sym at.phase ∙ phase in cc)
+at_rest_there h items s (rests_for_good at few short) phase is = absurd (let no : at_end ≡ between = sym at ∙ phase in cc)
 
 led_from : (work : Work) (h : ℕ) (s end : HartState) (events : List Event) → IsMember work h → IsLed h s → Runs (acts work) (acted work) s events end → IsLed h end
 led_from work h s end [] is at run = subst (IsLed h) (sym run) at
 led_from work h s end (e ∷ es) is at run = led_from work h (acted work s e) end es is (led_on work h s e is at run.0) run.1
 
-in_mode_m : (template : Items) (h : ℕ) → start_mode (record no_hart { template = template }) h ≡ M
+in_mode_m : (pages : ℕ) (items : Items) (h : ℕ) → start_mode (record no_hart { code_pages = pages; template = items }) h ≡ M
 unfolding start_mode written masked with_field field_of
-in_mode_m template h = refl
+in_mode_m pages items h = refl
+
+-- no part of the start reads the code pages and the template
+pub csrs_plain : (pages : ℕ) (items : Items) (h : ℕ) → start_csrs (record no_hart { code_pages = pages; template = items }) h ≡ start_csrs no_hart h
+unfolding start_csrs
+csrs_plain pages items h = refl
 
 pub start_between : (work : Work) (seed h : ℕ) → IsMember work h → IsBetween h 0 (script work h) (start work seed h)
 start_between work seed h is =
     let plain = plain_work work h is.keeps is.member in
     let hart = plain_hart work h is.keeps is.member in
     let room = hart.room in
+    let low = low_number work h is in
+    let file_is : start_csrs (plan_of work h) h ≡ m_csrs h =
+    ap (λ (p : HartPlan). start_csrs p h) plain.plan ∙ csrs_plain (plan_of work h).code_pages (plan_of work h).template h ∙ start_is h (omega (arith, low)) in
     record {
       phase = refl;
       left = refl;
       count = refl;
       window = record {
-        number = refl;
-        mode = ap (λ (p : HartPlan). start_mode p h) plain.plan ∙ in_mode_m (plan_of work h).template h;
-        zero = refl;
-        loop = refl;
-        free = λ i late. refl;
-        steps = refl;
+        so_far = record { number = refl; zero = refl; loop = refl; free = λ i late. refl; steps = omega arith };
+        mode = ap (λ (p : HartPlan). start_mode p h) plain.plan ∙ in_mode_m (plan_of work h).code_pages (plan_of work h).template h;
         pc = window_is work h plain ∙ omega arith;
+        handler = ap (λ (file : CsrFile). file.mtvec) file_is;
+        aligned = ap (λ (file : CsrFile). file.mepc % 4) file_is ∙ omega arith;
       };
       ahead = record { room = omega (arith, room); makeable = hart.requests };
     }

@@ -1,4 +1,5 @@
 pub mod Fixing
+pub mod Telling
 pub mod Bare
 pub mod Plainly
 pub mod Spelling
@@ -12,6 +13,9 @@ pub mod Begun
 pub mod Turning
 pub mod Begins
 pub mod Led
+pub mod Handled
+pub mod Found
+pub mod InHandler
 pub mod Made
 pub mod Blocked
 pub mod Words

@@ -1,5 +1,5 @@
 -- A word that is made and stepped: what the hart's machine does then.
-use Rattle.std.proofs.Common.{ℕ, zero, suc, ◌+◌, ◌-◌, ◌*◌, ◌/◌, ◌%◌, ◌^◌, ◌<◌, ◌≡◌, Bool, true, false, cond, eqb, ltb, eqb-true, eq-eqb, List, [], ◌∷◌, length, get_or, Option, Some, None, refl, sym, ap, subst, ◌∙◌, arith, filter}
+use Rattle.std.proofs.Common.{ℕ, zero, suc, ◌+◌, ◌-◌, ◌*◌, ◌/◌, ◌%◌, ◌^◌, ◌<◌, ◌≤◌, ◌≡◌, Bool, true, false, cond, eqb, ltb, eqb-true, eq-eqb, List, [], ◌∷◌, length, get_or, Option, Some, None, refl, sym, ap, subst, ◌∙◌, arith, filter}
 use Rattle.std.specs.Prelude.{is_none, is_some, not, option_map, ◌&&◌, ◌||◌, IsSome}
 use Rattle.std.specs.Int.{w32, to_le_bytes}
 use Rattle.std.specs.List.{AllByRecursion}
@@ -18,7 +18,7 @@ use Rattle.rv_fields.specs.Step.{Stepped, step}
 use Rattle.rv_fields.proofs.Told.{told_word}
 use Rattle.rv_fields.proofs.Updated.{updated_at}
 use Rattle.choice_tree.specs.Draws.{Draws, next_word, skipped}
-use Rattle.region_plan.specs.Plan.{HartPlan, Work, no_hart, plan_of}
+use Rattle.region_plan.specs.Plan.{Work, no_hart, plan_of}
 use Rattle.boot_words.specs.Layout.{code_address, code_start, data_start, window_at, window_by, window_words}
 use Rattle.hart_task.specs.Acts.{Fixing}
 use Rattle.hart_task.specs.Heard.{Heard}
@@ -106,29 +106,28 @@ sources_told x draws (Some d) = of (eqb (rs1_read d) d.ops.rs2) refl (all_some x
 -- ---- the word at pc
 
 -- a window's word is told at its address
-window_byte : (work : Work) (s : HartState) (heard : Heard) (index j word : ℕ) → window_words work s.hart.number ≡ 1024 → s.hart.number < 16 → index < 1024 → j < 4
+window_byte : (work : Work) (s : HartState) (heard : Heard) (index j word : ℕ) → 1024 ≤ window_words work s.hart.number → s.hart.number < 16 → index < 1024 → j < 4
     → s.words index ≡ Some word → (seen_of work s heard).byte (code_start s.hart.number + 4 * index + j) ≡ Some (word / 256 ^ j % 256)
 window_byte work s heard index j word window few short small is =
     let h : ℕ = s.hart.number in
     let a : ℕ = code_start h + 4 * index + j in
     let low : ltb a data_start ≡ true = grind (arith, nat_tests) in
-    let inside : lies_in a (code_start h) 4096 ≡ true = grind (arith, nat_tests) in
-    let size : 4 * window_words work h ≡ 4096 = ap (λ n. 4 * n) window in
+    let inside : lies_in a (code_start h) (4 * window_words work h) ≡ true = grind (arith, nat_tests) in
     let at : (a - code_start h) / 4 ≡ index = omega (arith, small) in
     let rest : a - code_start h - index * 4 ≡ j = omega (arith, small) in
-    rw low (rw size (rw inside (ap (λ q. option_map (λ w. byte_of w (q * 4) (a - code_start h)) (s.words q)) at
-    ∙ ap (option_map (λ w. byte_of w (index * 4) (a - code_start h))) is ∙ ap (λ q. Some (word / 256 ^ q % 256)) rest)))
+    rw low (rw inside (ap (λ q. option_map (λ w. byte_of w (q * 4) (a - code_start h)) (s.words q)) at
+    ∙ ap (option_map (λ w. byte_of w (index * 4) (a - code_start h))) is ∙ ap (λ q. Some (word / 256 ^ q % 256)) rest))
 
-byte_of_word : (word j : ℕ) → j < 4 → word < 2 ^ 32 → get_or (to_le_bytes w32 word) j 0 ≡ word / 256 ^ j % 256
+pub byte_of_word : (word j : ℕ) → j < 4 → word < 2 ^ 32 → get_or (to_le_bytes w32 word) j 0 ≡ word / 256 ^ j % 256
 byte_of_word word zero small fits = omega arith
 byte_of_word word (suc zero) small fits = omega arith
 byte_of_word word (suc (suc zero)) small fits = omega arith
 byte_of_word word (suc (suc (suc zero))) small fits = omega (arith, fits)
 byte_of_word word (suc (suc (suc (suc j)))) small fits = absurd (omega (arith, small))
 
--- where a hart with one page of code stands at a word that was made
+-- where a hart stands at a word that was made, in the first page of its code
 pub record StandsAt (work : Work) (s : HartState) (index word : ℕ) : Type 0 where
-  pub window : window_words work s.hart.number ≡ 1024
+  pub window : 1024 ≤ window_words work s.hart.number
   pub few : s.hart.number < 16
   pub short : index < 1024
   pub fits : word < 2 ^ 32
@@ -246,12 +245,14 @@ stepped_is work s heard word m a b is_m tells quiet sources =
 
 -- ---- the word that is made
 
-plan_window : (work : Work) (h : ℕ) → plan_of work h ≡ record no_hart { template = (plan_of work h).template } → window_at work h ≡ code_start h
+plan_window : (work : Work) (h : ℕ) → plan_of work h ≡ record no_hart { code_pages = (plan_of work h).code_pages; template = (plan_of work h).template }
+    → window_at work h ≡ code_start h
 plan_window work h plain = ap (λ p. window_by p h) plain
 
--- A hart at the end of what it has made, in a window of one page: its next word has the index of their number.
+-- A hart at the end of what it has made, in the first page of its window: its next word has the index of their number.
 pub record MakesAt (work : Work) (s : HartState) (index : ℕ) : Type 0 where
-  pub plain : plan_of work s.hart.number ≡ record no_hart { template = (plan_of work s.hart.number).template }
+  pub plain : plan_of work s.hart.number ≡ record no_hart { code_pages = (plan_of work s.hart.number).code_pages; template = (plan_of work s.hart.number).template }
+  pub some_pages : 1 ≤ (plan_of work s.hart.number).code_pages
   pub few : s.hart.number < 16
   pub short : index < 1024
   pub free : s.words index ≡ None
@@ -269,7 +270,7 @@ index_is work s index at = index_there work s index (plan_window work s.hart.num
 
 stands_at : (work : Work) (s : HartState) (index word : ℕ) → MakesAt work s index → word < 2 ^ 32 → StandsAt work (with_word work s word) index word
 stands_at work s index word at fits = record {
-  window = ap (λ (p : HartPlan). 1024 * p.code_pages) at.plain;
+  window = let some = at.some_pages in omega (arith, some);
   few = at.few;
   short = at.short;
   fits = fits;

@@ -1,7 +1,7 @@
--- Steps that leave memory alone and take no trap.
+-- Steps that leave memory alone.
 use Rattle.std.proofs.Common.{ℕ, zero, suc, ◌+◌, ◌-◌, ◌&&◌, Bool, leb, ltb, get_or, rules, ◌%◌, ◌^◌, ◌<◌, ◌≡◌, true, false, cond, eqb, Option, Some, None, refl, sym, ap, subst, ◌∙◌, arith}
 use Rattle.std.specs.Int.{w32, to_le_bytes}
-use Rattle.std.specs.Prelude.{IsSome, IsTrue}
+use Rattle.std.specs.Prelude.{IfSome, IsSome, IsTrue}
 use Rattle.std.proofs.lemmas.Bool.{ne_eqb}
 use Rattle.std.proofs.lemmas.Bool.Decides.{nat_tests}
 use Rattle.std.proofs.lemmas.Option.{same_Some}
@@ -16,8 +16,8 @@ use Rattle.rv_fields.proofs.Course.{Course, unreached, lacks_word, undecoded, ex
 use Rattle.rv_fields.proofs.Told.{told_word}
 use Rattle.hart_task.specs.Bus.{word_seen}
 use Rattle.rv_step.specs.Frames.{HasRoomForAccess, HasRoomForStep}
-use Rattle.hart_task.specs.Plain.{IsPlainFor, StepsPlainly, plain_effect}
-use Rattle.hart_task.proofs.Bare.{IsBare, TellsSources, bare, bare_quiet, bare_step}
+use Rattle.hart_task.specs.Plain.{IsHandledTrap, IsPlainFor, StepsPlainly, plain_effect}
+use Rattle.hart_task.proofs.Bare.{IsBare, TellsSources, bare, bare_handled, bare_quiet, bare_step}
 
 -- ---- a word alone in memory is told
 
@@ -77,9 +77,12 @@ plain_room room hart word p =
     subst (HasRoomForStep room) (sym p.steps) (subst (HasRoomForAccess room) (sym (ap (λ (e : Effect). e.access) p.plain)) tt)
 
 pub plain_is : (hart : Hart) (word : ℕ) (s : Stepped) → StepsPlainly hart word → step (word_seen hart.pc word) hart ≡ Some s
-    → s.effect ≡ plain_effect hart word s.effect.rd
+    → s.effect ≡ plain_effect hart word s.effect.rd s.effect.trap
 plain_is hart word s p does =
-    subst (λ (q : Stepped). q.effect ≡ plain_effect hart word q.effect.rd) (same_Some p.stepped s (sym p.steps ∙ does)) p.plain
+    subst (λ (q : Stepped). q.effect ≡ plain_effect hart word q.effect.rd q.effect.trap) (same_Some p.stepped s (sym p.steps ∙ does)) p.plain
+
+pub trap_is : (hart : Hart) (word : ℕ) (s : Stepped) → StepsPlainly hart word → step (word_seen hart.pc word) hart ≡ Some s → IfSome s.effect.trap IsHandledTrap
+trap_is hart word s p does = subst (λ (q : Stepped). IfSome q.effect.trap IsHandledTrap) (same_Some p.stepped s (sym p.steps ∙ does)) p.trap
 
 -- ---- whatever stands in the registers
 
@@ -102,15 +105,13 @@ sources_of_all x (Some d) all =
     let b = found_in (x d.ops.rs2) (all d.ops.rs2) in
     (a.0, b.0, (a.1, b.1))
 
--- a word that takes no trap, whatever stands in the registers
-pub bare_plainly : (hart : Hart) (word : ℕ) (m : Option Decoded) → IsReady hart → word < 2 ^ 32 → decoded word ≡ m → IsBare m
-    → ((x : Registers) (a b : ℕ) → (bare_step (with_registers x hart) word m a b).effect.trap ≡ None) → IsPlainFor hart word
-bare_plainly hart word m ready small row alone quiet x all =
+-- a word that accesses no memory, whatever stands in the registers
+pub bare_plainly : (hart : Hart) (word : ℕ) (m : Option Decoded) → IsReady hart → word < 2 ^ 32 → decoded word ≡ m → IsBare m → IsPlainFor hart word
+bare_plainly hart word m ready small row alone x all =
     let sources = sources_of_all x m all in
-    let s : Stepped = bare_step (with_registers x hart) word m sources.0 sources.1 in
     record {
-      stepped = s;
+      stepped = bare_step (with_registers x hart) word m sources.0 sources.1;
       steps = bare (word_seen hart.pc word) (with_registers x hart) word m sources.0 sources.1 ready.mode (own_word_told hart.pc word ready.in_it small) row alone sources.2;
-      plain = bare_quiet (with_registers x hart) word m sources.0 sources.1 alone
-          ∙ ap (λ trap. record (plain_effect hart word s.effect.rd) { trap = trap }) (quiet x sources.0 sources.1);
+      plain = bare_quiet (with_registers x hart) word m sources.0 sources.1 alone;
+      trap = bare_handled (with_registers x hart) word m sources.0 sources.1 ready.mode alone;
     }

@@ -1,12 +1,13 @@
 -- A task behind a step stands where the hart's machine does.
-use Rattle.std.proofs.Common.{ℕ, zero, suc, ◌+◌, ◌*◌, ◌<◌, ◌≤◌, ◌≡◌, Bool, true, false, cond, eqb, eqb-true, eq-eqb, List, [], ◌∷◌, ◌++◌, length, Option, Some, None, refl, sym, ap, subst, ◌∙◌, arith, append_assoc, append-nil}
-use Rattle.std.specs.Prelude.{drop, is_none, slice_get}
+use Rattle.std.proofs.Common.{ℕ, zero, suc, ◌+◌, ◌-◌, ◌*◌, ◌<◌, ◌≤◌, ◌≡◌, Bool, true, false, cond, eqb, eqb-true, eq-eqb, List, [], ◌∷◌, ◌++◌, length, Option, Some, None, refl, sym, ap, subst, ◌∙◌, arith, append_assoc, append-nil}
+use Rattle.std.specs.Prelude.{drop, is_none, option_map, slice_get}
+use Rattle.std.specs.Option.{option_map_or}
 use Rattle.std.proofs.lemmas.Bool.{ne_eqb}
 use Rattle.std.proofs.lemmas.List.{map-append, length-append}
 use Rattle.std.proofs.lemmas.Grind.{flat_map-append}
 use Rattle.std.proofs.lemmas.Option.{same_Some}
-use Rattle.rv_fields.specs.declared.mode.Mode.TheVariants.{M}
-use Rattle.rv_fields.specs.Decode.{Decoded, rs1_read}
+use Rattle.rv_fields.specs.declared.access.Accessed.{Accessed}
+use Rattle.rv_fields.specs.Decode.{Decoded, decoded, rs1_read}
 use Rattle.rv_fields.specs.Effect.{Effect}
 use Rattle.rv_fields.specs.Hart.{Hart, Registers, updated}
 use Rattle.rv_fields.specs.Laws.{Extends, StepLeaves, TellsMore, from_registers, with_registers}
@@ -15,26 +16,26 @@ use Rattle.rv_fields.specs.Step.{Stepped, step, with_write}
 use Rattle.rv_fields.proofs.MoreTold.{more_told}
 use Rattle.choice_tree.specs.Draws.{next_word, skipped}
 use Rattle.region_plan.specs.Plan.{Work, hart_count, plan_of}
-use Rattle.trace_text.specs.Lines.{Line, starting}
-use Rattle.boot_words.specs.Layout.{code_address}
-use Rattle.world_face.specs.Events.{Event, Placed}
+use Rattle.trace_text.specs.Lines.{Line, starting, done}
+use Rattle.boot_words.specs.Layout.{shard_of}
+use Rattle.world_face.specs.Events.{Event, Placed, no_parts, nothing_asked}
 use Rattle.world_face.specs.Runs.{Runs}
-use Rattle.hart_task.specs.Acts.{Act, event_of, fixing_lines}
+use Rattle.hart_task.specs.Acts.{Act, Came, Fixing, event_of, fixing_lines, step_line}
 use Rattle.hart_task.specs.Bus.{word_seen}
 use Rattle.hart_task.specs.Heard.{Heard, heard_of}
 use Rattle.hart_task.specs.Log.{events_of}
 use Rattle.hart_task.specs.OneRun.{RunsTo, all_lines}
-use Rattle.hart_task.specs.State.{HartState, entries_at_first, index_of, start}
+use Rattle.hart_task.specs.State.{HartState, entries_at_first, start}
 use Rattle.hart_task.specs.Stepping.{fixed_in, late_registers}
-use Rattle.hart_task.specs.Task.{TaskSeen, Stands, IsMaking, index_at, fixed_task, late_of, late_one, phase_seen, script, state_of, stepped_task, task_event, words_made}
-use Rattle.hart_task.specs.declared.task.Phase as task
+use Rattle.hart_task.specs.Task.{IsInPhase, Stands, Steps, TaskSeen, Whose, came_by, done_by, fixed_task, late_of, late_one, of_end, of_handler, of_request, phase_by, phase_seen, script, state_of, stepped_task, task_event, told_lines, words_by, words_made}
 use Rattle.hart_task.specs.Turn.{Turned, acted, acts, turned}
 use Rattle.hart_task.proofs.Begun.{starting_fixed, starting_kept}
+use Rattle.hart_task.proofs.Bare.{bare_quiet}
 use Rattle.hart_task.proofs.Fixing.{at_most_one, both_fixed, both_told, late_is}
 use Rattle.hart_task.proofs.Going.{none_before}
-use Rattle.hart_task.proofs.Led.{IsInWindow, IsMember, behind_word, leaves_so, stepped_so, steps_so}
+use Rattle.hart_task.proofs.Led.{leaves_so, stepped_so, stepped_turn, stepping, steps_so}
 use Rattle.hart_task.proofs.Makes.{IsQuietWord, fixed_hart, tells_fixed}
-use Rattle.hart_task.proofs.Plainly.{more_written}
+use Rattle.hart_task.proofs.Plainly.{IsReady, more_written}
 
 -- ---- one event more
 
@@ -50,7 +51,7 @@ acts_turned work s e t is event = rw is (event, refl)
 
 -- ---- the words made
 
-words_after : (ws : List ℕ) (word i : ℕ) → updated (λ i. slice_get ws i) (length ws) (Some word) i ≡ slice_get (ws ++ word ∷ []) i
+pub words_after : (ws : List ℕ) (word i : ℕ) → updated (λ i. slice_get ws i) (length ws) (Some word) i ≡ slice_get (ws ++ word ∷ []) i
 words_after [] word zero = refl
 words_after [] word (suc i) = let no : eqb (suc i) 0 ≡ false = ne_eqb (suc i) 0 (λ same. omega (arith, same)) in rw no refl
 words_after (w ∷ ws) word zero = let no : eqb 0 (suc (length ws)) ≡ false = ne_eqb 0 (suc (length ws)) (λ same. omega (arith, same)) in rw no refl
@@ -63,26 +64,21 @@ words_after (w ∷ ws) word (suc i) = ap (λ t. cond t (Some word) (slice_get ws
         of true e = let same : m ≡ n = eqb-true m n (sym e) in eq-eqb (suc m) (suc n) (ap suc same)
         of false e = ne_eqb (suc m) (suc n) (λ same. let both : eqb m n ≡ true = eq-eqb m n (omega (arith, same)) in absurd cc)
 
-abbrev pub in_phase : TaskSeen → task.Phase → TaskSeen
-in_phase t phase = record t { phase = phase }
-
 -- ---- the step of the code is that of the machine
 
 itself : (seen : Seen) → Extends seen seen
 itself seen = record { byte = λ a b e. e; link = λ h g b e. e }
 
 -- What the code's hart does, all of whose registers have values, the machine's hart does, which knows fewer.
-pub record IsSame (t : TaskSeen) (d : Decoded) (r : Stepped) (effect : Effect) (next : Hart) : Type 0 where
+pub record IsSame (t : TaskSeen) (m : Option Decoded) (r : Stepped) (effect : Effect) (next : Hart) : Type 0 where
   pub effect_is : effect ≡ r.effect
-  pub hart_is : with_registers (with_write (fixed_in t.log.present (late_of t d)) effect.rd) next ≡ r.hart
-  pub held : TellsMore (with_write (fixed_in t.log.present (late_of t d)) effect.rd) next.x
+  pub hart_is : with_registers (with_write (fixed_in t.log.present (late_of t m)) effect.rd) next ≡ r.hart
+  pub held : TellsMore (with_write (fixed_in t.log.present (late_of t m)) effect.rd) next.x
   pub number : next.number ≡ t.hart.number
 
-pub same_step : (work : Work) (t : TaskSeen) (h made word : ℕ) (d : Decoded) (effect : Effect) (next : Hart) → IsMember work h → made ≤ 1000 → IsInWindow h made (state_of work t)
-    → IsQuietWord word (Some d) → TellsMore t.log.present t.hart.x
-    → step (word_seen t.hart.pc word) (fixed_task t (late_of t d)).hart ≡ Some (record { effect = effect; hart = next })
-    → IsSame t d (stepped_so (state_of work t) word (Some d)) effect next
-same_step work t h made word d effect next is few at quiet held does = record {
+same_step : (work : Work) (t : TaskSeen) (word : ℕ) (m : Option Decoded) (effect : Effect) (next : Hart) → IsReady (state_of work t).hart → IsQuietWord word m → TellsMore t.log.present t.hart.x
+    → step (word_seen t.hart.pc word) (fixed_task t (late_of t m)).hart ≡ Some (record { effect = effect; hart = next }) → IsSame t m (stepped_so (state_of work t) word m) effect next
+same_step work t word m effect next ready quiet held does = record {
   effect_is = effect_is;
   hart_is = ap (with_registers (with_write part effect.rd)) next_is ∙ (λ i. with_registers (registers i) r.hart);
   held = subst (TellsMore (with_write part effect.rd)) (sym (ap (λ (q : Hart). q.x) next_is ∙ ap (λ (e : Effect). with_write full e.rd) (sym effect_is))) (more_written part full effect.rd more);
@@ -93,22 +89,22 @@ same_step work t h made word d effect next is few at quiet held does = record {
     s = state_of work t
 
     r : Stepped
-    r = stepped_so s word (Some d)
+    r = stepped_so s word m
 
     part : Registers
-    part = fixed_in t.log.present (late_of t d)
+    part = fixed_in t.log.present (late_of t m)
 
     full : Registers
-    full = fixed_in t.hart.x (late_of t d)
+    full = fixed_in t.hart.x (late_of t m)
 
     more : TellsMore part full
-    more = tells_fixed t.log.present t.hart.x (late_of t d) held
+    more = tells_fixed t.log.present t.hart.x (late_of t m) held
 
-    leaves : StepLeaves (fixed_hart s (Some d)) r
-    leaves = leaves_so work h made s word (Some d) is few at quiet
+    leaves : StepLeaves (fixed_hart s m) r
+    leaves = leaves_so s word m ready quiet
 
     same : record { effect = effect; hart = next } ≡ from_registers full r
-    same = same_Some _ _ (sym does ∙ more_told (word_seen t.hart.pc word) (word_seen t.hart.pc word) (itself (word_seen t.hart.pc word)) full (fixed_hart s (Some d)) more r (steps_so work h made s word (Some d) is few at quiet))
+    same = same_Some _ _ (sym does ∙ more_told (word_seen t.hart.pc word) (word_seen t.hart.pc word) (itself (word_seen t.hart.pc word)) full (fixed_hart s m) more r (steps_so s word m ready quiet))
 
     effect_is : effect ≡ r.effect
     effect_is = ap (λ (q : Stepped). q.effect) same
@@ -124,28 +120,31 @@ same_step work t h made word d effect next is few at quiet held does = record {
 pub length_more : (ws : List ℕ) (w : ℕ) → length (ws ++ w ∷ []) ≡ length ws + 1
 length_more ws w = length-append ws (w ∷ [])
 
--- the task behind a step
-abbrev pub task_behind : TaskSeen → ℕ → Decoded → List Line → ℕ → Effect → Hart → task.Phase → TaskSeen
-task_behind t word d lines place effect next phase = in_phase (stepped_task t word (late_of t d) lines place effect next) phase
-
-pub state_behind : (work : Work) (t : TaskSeen) (word place : ℕ) (d : Decoded) (effect : Effect) (next : Hart) (lines : List Line) (phase : task.Phase)
-    → index_of work (state_of work t) ≡ length t.log.words → IsSame t d (stepped_so (state_of work t) word (Some d)) effect next
-    → record (behind_word work (state_of work t) word (Some d)) { phase = phase_seen phase } ≡ state_of work (task_behind t word d lines place effect next phase)
-state_behind work t word place d effect next lines phase index same = λ i. record {
+-- behind a step, with these words of the window
+state_behind : (work : Work) (t : TaskSeen) (whose : Whose) (word place : ℕ) (m : Option Decoded) (effect : Effect) (next : Hart) (words : ℕ → Option ℕ) → t.begun ≤ length t.log.events
+    → ((i : ℕ) → words i ≡ slice_get (words_by whose t.log.words word) i) → IsSame t m (stepped_so (state_of work t) word m) effect next
+    → (stepped_turn (state_of work t) whose word m words).state ≡ state_of work (stepped_task t whose word (late_of t m) place effect next)
+state_behind work t whose word place m effect next words begun are same = λ i. record {
   hart = sym same.hart_is i;
   picks = record { seed = t.draws.seed; stream = 2 * sym same.number i; drawn = 0 };
   draws = drawn i;
-  words = λ k. (ap (λ p. updated (λ j. slice_get t.log.words j) p (Some word) k) index ∙ words_after t.log.words word k) i;
+  words = λ k. are k i;
   entries = entries_at_first work (plan_of work (sym same.number i)).space;
   left = drop t.begun (script work (sym same.number i));
   count = t.begun;
-  steps = sym (length_more t.log.words word) i;
+  steps = steps i;
   loop = None;
-  phase = phase_seen phase;
+  phase = phase_seen (phase_by whose (sym same.effect_is i).trap);
 }
   where
-    drawn : skipped t.draws (length (late_of t d) + 0) ≡ skipped t.draws (length (late_of t d))
-    drawn = let n : length (late_of t d) + 0 ≡ length (late_of t d) = omega arith in ap (skipped t.draws) n
+    drawn : skipped t.draws (length (late_of t m) + 0) ≡ skipped t.draws (length (late_of t m))
+    drawn = let n : length (late_of t m) + 0 ≡ length (late_of t m) = omega arith in ap (skipped t.draws) n
+
+    event : Placed
+    event = record { place = place; event = task_event t.hart.number (told_lines t.hart.number whose (late_of t m) effect) }
+
+    steps : length t.log.events - t.begun + 1 ≡ length (t.log.events ++ event ∷ []) - t.begun
+    steps = let more = length-append t.log.events (event ∷ []) in omega (arith, more, begun)
 
 -- ---- the task stands there
 
@@ -185,66 +184,116 @@ fixed_one t ls a h f = of (t.log.present a) refl
         gone true r e = absurd cc
         gone false r e = f.fresh r e
 
-fixed_all : (t : TaskSeen) (ls : List Line) (d : Decoded) (h : ℕ) → rs1_read d ≡ d.ops.rs1 → Fixed t t ls h
-    → Fixed t (fixed_task t (late_of t d)) (ls ++ fixing_lines h (late_of t d)) h
-fixed_all t ls d h is f =
-    let a : ℕ = d.ops.rs1 in
+fixed_all : (t : TaskSeen) (ls : List Line) (m : Option Decoded) (h : ℕ) → Fixed t t ls h → Fixed t (fixed_task t (late_of t m)) (ls ++ fixing_lines h (late_of t m)) h
+fixed_all t ls None h f = record { fresh = f.fresh; initial = λ r. f.initial r ∙ ap (λ l. starting l h r) (sym (append-nil ls)) }
+fixed_all t ls (Some d) h f =
+    let a : ℕ = rs1_read d in
     let t1 : TaskSeen = fixed_task t (late_one t a) in
     let once : Fixed t t1 (ls ++ fixing_lines h (late_one t a)) h = fixed_one t ls a h f in
     let twice = fixed_one t1 (ls ++ fixing_lines h (late_one t a)) d.ops.rs2 h (record { fresh = once.fresh; initial = once.initial }) in
-    subst (λ q. Fixed t q (ls ++ fixing_lines h (late_of t d)) h) (both_fixed t d is)
-    (subst (λ l. Fixed t (fixed_task t1 (late_one t1 d.ops.rs2)) l h) (append_assoc ls (fixing_lines h (late_one t a)) (fixing_lines h (late_one t1 d.ops.rs2)) ∙ ap (λ l. ls ++ l) (both_told t d h is))
+    subst (λ q. Fixed t q (ls ++ fixing_lines h (late_of t (Some d))) h) (both_fixed t d)
+    (subst (λ l. Fixed t (fixed_task t1 (late_one t1 d.ops.rs2)) l h) (append_assoc ls (fixing_lines h (late_one t a)) (fixing_lines h (late_one t1 d.ops.rs2)) ∙ ap (λ l. ls ++ l) (both_told t d h))
     (record { fresh = twice.fresh; initial = twice.initial }))
 
 -- no more than two registers are fixed
-pub few_fixed : (t : TaskSeen) (d : Decoded) → rs1_read d ≡ d.ops.rs1 → length (late_of t d) ≤ 2
-few_fixed t d is =
-    let t1 : TaskSeen = fixed_task t (late_one t d.ops.rs1) in
-    let both = ap length (late_is t d is) ∙ length-append (late_one t d.ops.rs1) (late_one t1 d.ops.rs2) in
-    omega (arith, both, at_most_one t.log.present t.draws d.ops.rs1, at_most_one t1.log.present t1.draws d.ops.rs2)
+few_fixed : (t : TaskSeen) (m : Option Decoded) → length (late_of t m) ≤ 2
+few_fixed t None = omega arith
+few_fixed t (Some d) =
+    let t1 : TaskSeen = fixed_task t (late_one t (rs1_read d)) in
+    let both = ap length (late_is t d) ∙ length-append (late_one t (rs1_read d)) (late_one t1 d.ops.rs2) in
+    omega (arith, both, at_most_one t.log.present t.draws (rs1_read d), at_most_one t1.log.present t1.draws d.ops.rs2)
 
 -- ---- behind a step
 
--- where the hart stands then
-pub record Places (t new : TaskSeen) : Type 0 where
-  pub zero : new.log.present 0 ≡ Some 0
-  pub mode : new.hart.mode ≡ M
-  pub place : new.hart.pc ≡ code_address t.hart.number (index_at new.phase (length new.log.words))
+-- an event whose step accesses nothing
+quiet_event : (work : Work) (h : ℕ) (came : Came) (ends : Option ℕ) (late : List Fixing) (effect : Effect) → effect.access ≡ None
+    → task_event h (fixing_lines h late ++ (step_line came effect ∷ option_map_or (λ (k : ℕ). done h k ∷ []) ends [])) ≡ event_of work h (stepping came ends late effect)
+quiet_event work h came ends late effect none = λ i. record {
+  hart = h;
+  parts = record no_parts { shard = option_map shard_of (option_map (λ (a : Accessed). a.pa) (sym none i)) };
+  asked = nothing_asked;
+  lines = fixing_lines h late ++ (step_line came effect ∷ option_map_or (λ (k : ℕ). done h k ∷ []) ends []);
+}
 
-pub stands_behind : (work : Work) (t : TaskSeen) (word place : ℕ) (d : Decoded) (effect : Effect) (next : Hart) (a : Act) (lines rest : List Line) (phase : task.Phase)
-    → Stands work t → rs1_read d ≡ d.ops.rs1 → IsSame t d (stepped_so (state_of work t) word (Some d)) effect next
-    → ((heard : Heard) → turned work (state_of work t) heard ≡ Some (record { act = a; state = state_of work (task_behind t word d lines place effect next phase) }))
-    → task_event t.hart.number lines ≡ event_of work t.hart.number a
-    → lines ≡ fixing_lines t.hart.number (late_of t d) ++ rest → ((r : ℕ) → starting rest t.hart.number r ≡ None)
-    → Places t (task_behind t word d lines place effect next phase)
-    → length t.log.words + 1 ≡ words_made phase t.begun → IsMaking phase t.begun
-    → Stands work (task_behind t word d lines place effect next phase)
-stands_behind work t word place d effect next a lines rest phase st is same turns event lines_are quiet stays words making =
-    let h : ℕ = t.hart.number in
-    let e : Event = task_event h lines in
-    let placed : List Placed = t.log.events ++ record { place = place; event = e } ∷ [] in
-    let behind : TaskSeen = task_behind t word d lines place effect next phase in
-    let run = run_more work t place e a (state_of work behind) st.run (turns (heard_of e)) event in
-    let fixed = fixed_all t (all_lines (events_of t.log.events)) d h is (record { fresh = st.fresh; initial = st.initial }) in
-    let same_lines : all_lines (events_of placed) ≡ (all_lines (events_of t.log.events) ++ fixing_lines h (late_of t d)) ++ rest =
-    lines_more t.log.events (record { place = place; event = e }) ∙ ap (λ ls. all_lines (events_of t.log.events) ++ ls) lines_are
-    ∙ sym (append_assoc (all_lines (events_of t.log.events)) (fixing_lines h (late_of t d)) rest) in
-    let initial : (r : ℕ) → fixed_in t.log.initial (late_of t d) r ≡ starting (all_lines (events_of placed)) h r =
-    λ r. fixed.initial r ∙ sym (starting_kept (all_lines (events_of t.log.events) ++ fixing_lines h (late_of t d)) rest h r (quiet r)) ∙ ap (λ ls. starting ls h r) (sym same_lines) in
-    let count = length_more t.log.words word in
-    record {
+-- what comes behind the starting values fixes none
+none_fixed_by : (h : ℕ) (whose : Whose) (effect : Effect) (ends : Option ℕ) (r : ℕ) → starting (step_line (came_by whose) effect ∷ option_map_or (λ (k : ℕ). done h k ∷ []) ends []) h r ≡ None
+none_fixed_by h (of_request k) effect None r = refl
+none_fixed_by h (of_request k) effect (Some j) r = refl
+none_fixed_by h (of_handler k next) effect None r = refl
+none_fixed_by h (of_handler k next) effect (Some j) r = refl
+none_fixed_by h of_end effect None r = refl
+none_fixed_by h of_end effect (Some j) r = refl
+
+pub stands_behind : (work : Work) (t new : TaskSeen) (whose : Whose) (word place : ℕ) (words : ℕ → Option ℕ) (before now : List Placed → Type 0) → Stands work t → IsReady (state_of work t).hart
+    → IsQuietWord word (decoded word) → Steps whose word t new place before now → ((i : ℕ) → words i ≡ slice_get (words_by whose t.log.words word) i)
+    → ((heard : Heard) → turned work (state_of work t) heard ≡ Some (stepped_turn (state_of work t) whose word (decoded word) words))
+    → length (words_by whose t.log.words word) ≡ words_made (phase_by whose (stepped_so (state_of work t) word (decoded word)).effect.trap) t.begun
+    → IsInPhase (phase_by whose (stepped_so (state_of work t) word (decoded word)).effect.trap) (stepped_so (state_of work t) word (decoded word)).hart.pc → Stands work new
+stands_behind work t new whose word place words before now st ready quiet did are turns made phase =
+    subst (Stands work) (sym did.task) (record {
       run = subst (λ n. RunsTo work t.draws.seed n (events_of placed) (state_of work behind)) (sym same.number) run;
       member = subst (λ n. n < hart_count work) (sym same.number) st.member;
       held = same.held;
-      zero = stays.zero;
-      mode = stays.mode;
-      place = stays.place ∙ ap (λ n. code_address n (index_at phase (length (t.log.words ++ word ∷ [])))) (sym same.number);
-      fresh = λ r none. fixed.fresh r (none_before (fixed_in t.log.present (late_of t d)) effect.rd r none);
+      fresh = λ r none. fixed.fresh r (none_before (fixed_in t.log.present late) effect.rd r none);
       initial = λ r. initial r ∙ ap (λ n. starting (all_lines (events_of placed)) n r) (sym same.number);
       stream = st.stream ∙ ap (λ n. 2 * n + 1) (sym same.number);
-      few = omega (arith, st.few, count, few_fixed t d is);
-      words = count ∙ words;
-      events = let more = length-append t.log.events (record { place = place; event = e } ∷ []) in omega (arith, more, count, st.events);
-      making = making;
-      many = subst (λ n. t.begun ≤ length (script work n)) (sym same.number) st.many;
-    }
+      few = omega (arith, st.few, count, few_fixed t m);
+      words = made ∙ ap (λ (q : Effect). words_made (phase_by whose q.trap) t.begun) (sym same.effect_is);
+      events = omega (arith, count, st.events);
+      phase = subst (λ (q : Effect). IsInPhase (phase_by whose q.trap) new.hart.pc) (sym same.effect_is) (subst (IsInPhase (phase_by whose r.effect.trap)) (sym (ap (λ (q : Hart). q.pc) same.hart_is)) phase);
+    })
+  where
+    h : ℕ
+    h = t.hart.number
+
+    m : Option Decoded
+    m = decoded word
+
+    late : List Fixing
+    late = late_of t m
+
+    effect : Effect
+    effect = did.effect
+
+    r : Stepped
+    r = stepped_so (state_of work t) word m
+
+    same : IsSame t m r effect new.hart
+    same = same_step work t word m effect new.hart ready quiet st.held did.does
+
+    behind : TaskSeen
+    behind = stepped_task t whose word late place effect new.hart
+
+    e : Event
+    e = task_event h (told_lines h whose late effect)
+
+    rest : List Line
+    rest = step_line (came_by whose) effect ∷ option_map_or (λ (k : ℕ). done h k ∷ []) (done_by whose effect.trap) []
+
+    placed : List Placed
+    placed = t.log.events ++ record { place = place; event = e } ∷ []
+
+    count : length placed ≡ length t.log.events + 1
+    count = length-append t.log.events (record { place = place; event = e } ∷ [])
+
+    none : effect.access ≡ None
+    none = ap (λ (q : Effect). q.access) same.effect_is ∙ ap (λ (q : Effect). q.access) (bare_quiet (fixed_hart (state_of work t) m) word m _ _ quiet.bare)
+
+    turned_so : turned work (state_of work t) (heard_of e) ≡ Some (record { act = stepping (came_by whose) (done_by whose effect.trap) late effect; state = state_of work behind })
+    turned_so = turns (heard_of e) ∙ (λ i. Some (record {
+      act = stepping (came_by whose) (done_by whose (sym same.effect_is i).trap) late (sym same.effect_is i);
+      state = state_behind work t whose word place m effect new.hart words st.events are same i;
+    }))
+
+    run : RunsTo work t.draws.seed h (events_of placed) (state_of work behind)
+    run = run_more work t place e _ (state_of work behind) st.run turned_so (quiet_event work h (came_by whose) (done_by whose effect.trap) late effect none)
+
+    fixed : Fixed t (fixed_task t late) (all_lines (events_of t.log.events) ++ fixing_lines h late) h
+    fixed = fixed_all t (all_lines (events_of t.log.events)) m h (record { fresh = st.fresh; initial = st.initial })
+
+    same_lines : all_lines (events_of placed) ≡ (all_lines (events_of t.log.events) ++ fixing_lines h late) ++ rest
+    same_lines = lines_more t.log.events (record { place = place; event = e }) ∙ sym (append_assoc (all_lines (events_of t.log.events)) (fixing_lines h late) rest)
+
+    initial : (r : ℕ) → fixed_in t.log.initial late r ≡ starting (all_lines (events_of placed)) h r
+    initial r = fixed.initial r ∙ sym (starting_kept (all_lines (events_of t.log.events) ++ fixing_lines h late) rest h r (none_fixed_by h whose effect (done_by whose effect.trap) r))
+        ∙ ap (λ ls. starting ls h r) (sym same_lines)

@@ -1,7 +1,6 @@
 -- What a request asks for, where it pins all operands.
 use Rattle.std.specs.Prelude.{ℕ, Option, Some, None}
 use Rattle.rv_fields.specs.declared.row_table.Ins.{Ins}
-use Rattle.rv_fields.specs.declared.row_table.Ops.{Ops}
 use Rattle.rv_encode.specs.Packing.{word_by}
 use Rattle.region_plan.specs.declared.request.InsChoice.{InsChoice}
 use Rattle.region_plan.specs.declared.request.InsChoice.TheVariants.{Named}
@@ -12,27 +11,23 @@ use Rattle.region_plan.specs.declared.request.Request.TheVariants as requests
 use Rattle.region_plan.specs.Request.{Demand, Quiet, no_arms}
 use Rattle.region_plan.specs.Script.{ScriptItem}
 use Rattle.region_plan.specs.Pinned.{csr_ops, pinned_ops}
-use Rattle.region_plan.specs.Views.{pins_seen, request_seen}
+use Rattle.region_plan.specs.Views.{pins_seen, request_seen, sys_seen}
+use Rattle.hart_task.specs.Beginning.{sys_word}
 
 abbrev pub ins_asked : InsChoice → Ins
 ins_asked (Named ins) = ins
 
-abbrev pub ins_of : Request → Ins
-ins_of (requests.Ins ins pins) = ins_asked ins
-ins_of (requests.Csr csr ins pins) = ins
-
-abbrev pub ops_asked : Request → Ops
-ops_asked (requests.Ins ins pins) = pinned_ops (pins_seen pins)
-ops_asked (requests.Csr csr ins pins) = csr_ops csr (pins_seen pins)
-
 -- the word that it makes
 abbrev pub word_asked : Request → ℕ
-word_asked r = word_by (ins_of r) (ops_asked r)
+word_asked (requests.Ins ins pins) = word_by (ins_asked ins) (pinned_ops (pins_seen pins))
+word_asked (requests.Csr csr ins pins) = word_by ins (csr_ops csr (pins_seen pins))
+word_asked (requests.Sys sys) = sys_word (sys_seen sys)
 
--- what its step has to be: of one on a CSR nothing is asked
+-- What its step has to be: of one on a CSR, or of a word of its own, nothing is asked.
 abbrev pub demand_asked : Request → Option Demand
 demand_asked (requests.Ins ins pins) = Some Quiet
 demand_asked (requests.Csr csr ins pins) = None
+demand_asked (requests.Sys sys) = None
 
 -- what an item of a template is in its script
 abbrev pub item_seen : item.Item → ScriptItem

@@ -1,9 +1,10 @@
 -- What a reader wants to know of a hart's lines: each request has one block, in the template's order. It is done, and then the
 -- block meets it, or it is refused, and then the cause holds.
-use Rattle.std.specs.Prelude.{ℕ, ◌≡◌, ◌+◌, ◌<◌, pos, true, List, [], ◌∷◌, ◌++◌, length, Option, Some, None, IfSome}
-use Rattle.std.specs.List.{AllByRecursion, filter_map}
+use Rattle.std.specs.Prelude.{ℕ, ◌≡◌, ◌+◌, ◌<◌, pos, true, List, [], ◌∷◌, ◌++◌, ◌*◌, length, map, Option, Some, None, IfSome}
+use Rattle.std.specs.List.{AllByRecursion, filter_map, range_with_len}
 use Rattle.rv_fields.specs.declared.csr.Csr.{Csr}
 use Rattle.rv_fields.specs.declared.row_table.Ins.{Ins}
+use Rattle.rv_fields.specs.declared.trap.Trap.{Trap}
 use Rattle.rv_fields.specs.Attempt.{◌>>=◌}
 use Rattle.rv_fields.specs.Csr.{csr_number}
 use Rattle.rv_fields.specs.Decode.{Decoded, decoded}
@@ -14,8 +15,9 @@ use Rattle.region_plan.specs.Script.{ScriptItem, cost}
 use Rattle.trace_fields.specs.declared.request.Cause.{Cause}
 use Rattle.trace_fields.specs.declared.request.Cause.TheVariants.{EmptyChoice, BudgetSpent, NoRegister, NoAddress, NoTarget, WindowFull, NoFreePage, NoPlace}
 use Rattle.trace_text.specs.Lines.{Line, request, picked, weighed, fixed, given, settled, touched, made, found, ending, done, refused, effects_of}
-use Rattle.boot_words.specs.Layout.{window_words}
+use Rattle.boot_words.specs.Layout.{m_handler_at, window_words}
 use Rattle.hart_task.specs.Acts.{request_kind}
+use Rattle.hart_task.specs.Beginning.{sys_word}
 use Rattle.hart_task.specs.Turn.{end_word}
 
 -- ---- done
@@ -29,37 +31,55 @@ pub record IsPinned (wanted : Ins) (pins : Pins) (d : Decoded) : Type 0 where
   pub rs2 : IfSome pins.rs2 (λ r. d.ops.rs2 ≡ r)
   pub imm : IfSome pins.imm (λ i. d.ops.imm ≡ i)
 
--- one step of the instruction that is named, without a trap
-pub record IsStepOf (ins : Ins) (pins : Pins) (effects : List Effect) : Type 0 where
+-- one step of the instruction that is named, without a trap, and none that is found
+pub record IsStepOf (ins : Ins) (pins : Pins) (own others : List Effect) : Type 0 where
   pub effect : Effect
-  pub alone : effects ≡ effect ∷ []
+  pub alone : own ≡ effect ∷ []
   pub no_trap : effect.trap ≡ None
+  pub no_handler : others ≡ []
   pub d : Decoded
   pub word : (effect.word >>= decoded) ≡ Some d
   pub pinned : IsPinned ins pins d
 
-abbrev pub MeetsIns : InsChoice → Pins → List Effect → Type 0
-MeetsIns (named_ins ins) pins effects = IsStepOf ins pins effects
-MeetsIns (by_tree tree) pins effects = ⊥
+abbrev pub MeetsIns : InsChoice → Pins → List Effect → List Effect → Type 0
+MeetsIns (named_ins ins) pins own others = IsStepOf ins pins own others
+MeetsIns (by_tree tree) pins own others = ⊥
 
 -- the number of a CSR stands in the immediate's place
 abbrev pub csr_pins : Csr → Pins → Pins
 csr_pins csr pins = record pins { imm = Some (pos (csr_number csr)) }
 
--- The steps of a block are what its request asks for. No job asks for the others yet.
-abbrev pub MeetsPlain : Plain → List Effect → Type 0
-MeetsPlain (an_ins ins pins) effects = MeetsIns ins pins effects
-MeetsPlain (a_mem r) effects = ⊥
-MeetsPlain (a_jump r) effects = ⊥
-MeetsPlain (a_csr csr ins pins) effects = IsStepOf ins (csr_pins csr pins) effects
-MeetsPlain (a_sys sys) effects = ⊥
-MeetsPlain (a_value value pins) effects = ⊥
+-- the addresses of the handler's words
+abbrev pub handler_addresses : List ℕ
+handler_addresses = map (λ i. m_handler_at + 4 * i) (range_with_len 0 6)
 
-abbrev pub Meets : Request → List Effect → Type 0
-Meets (a_plain p) effects = MeetsPlain p effects
-Meets (a_loop times counter body) effects = ⊥
-Meets (a_set tree path weight) effects = ⊥
-Meets (a_pick tree) effects = ⊥
+-- Behind a trap the steps that are found are those of the handler, and there are none but behind one.
+abbrev pub AreHandled : Option Trap → List Effect → Type 0
+AreHandled None others = others ≡ []
+AreHandled (Some trap) others = map (λ (e : Effect). e.pc) others ≡ handler_addresses
+
+-- one step of the word, and its handler's where it takes a trap
+pub record IsStepOfWord (word : ℕ) (own others : List Effect) : Type 0 where
+  pub effect : Effect
+  pub alone : own ≡ effect ∷ []
+  pub word_is : effect.word ≡ Some word
+  pub handled : AreHandled effect.trap others
+
+-- The steps of a block, those of its own words and those that are found, are what its request asks for. No job asks for the
+-- others yet.
+abbrev pub MeetsPlain : Plain → List Effect → List Effect → Type 0
+MeetsPlain (an_ins ins pins) own others = MeetsIns ins pins own others
+MeetsPlain (a_mem r) own others = ⊥
+MeetsPlain (a_jump r) own others = ⊥
+MeetsPlain (a_csr csr ins pins) own others = IsStepOf ins (csr_pins csr pins) own others
+MeetsPlain (a_sys sys) own others = IsStepOfWord (sys_word sys) own others
+MeetsPlain (a_value value pins) own others = ⊥
+
+abbrev pub Meets : Request → List Effect → List Effect → Type 0
+Meets (a_plain p) own others = MeetsPlain p own others
+Meets (a_loop times counter body) own others = ⊥
+Meets (a_set tree path weight) own others = ⊥
+Meets (a_pick tree) own others = ⊥
 
 -- ---- refused
 
@@ -77,6 +97,21 @@ made_by (found e) = None
 made_by (ending e) = Some e
 made_by (done hart k) = None
 made_by (refused hart k cause preamble) = None
+
+-- the words that they find
+abbrev pub found_by : Line → Option Effect
+found_by (request hart k kind) = None
+found_by (picked hart tree leaf word) = None
+found_by (weighed hart tree path weight) = None
+found_by (fixed hart register value) = None
+found_by (given hart object page frame) = None
+found_by (settled hart space entry) = None
+found_by (touched hart at bytes) = None
+found_by (made e) = None
+found_by (found e) = Some e
+found_by (ending e) = None
+found_by (done hart k) = None
+found_by (refused hart k cause preamble) = None
 
 -- Behind these lines of its hart a request has the cause: the hart has no budget for its cost and the ending step, or its window
 -- no room for its word and the ending one. No request that a job can ask for has another cause yet.
@@ -109,7 +144,7 @@ IsInner (refused hart k cause preamble) = ⊥
 
 -- how a block of the request of number k ends
 pub data Ended (work : Work) (h k : ℕ) (r : Request) (before inner : List Line) (last : Line) : Type 0 where
-  is_met : last ≡ done h k → Meets r (effects_of inner) → Ended work h k r before inner last
+  is_met : last ≡ done h k → Meets r (filter_map made_by inner) (filter_map found_by inner) → Ended work h k r before inner last
   is_refused : (cause : Cause) (preamble : ℕ) → last ≡ refused h k cause preamble → HasCause work h before r cause → Ended work h k r before inner last
 
 pub record IsBlock (work : Work) (h k : ℕ) (r : Request) (before block : List Line) : Type 0 where

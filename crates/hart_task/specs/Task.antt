@@ -1,8 +1,9 @@
 -- A hart's task: the state of its hart's machine at which it stands, and what a turn makes of it.
-use Rattle.std.specs.Prelude.{Bool, true, false, ℕ, ◌≡◌, ◌+◌, ◌-◌, ◌*◌, ◌<◌, ◌≤◌, List, [], ◌∷◌, ◌++◌, drop, filter, is_none, length, Option, Some, None, slice_get}
+use Rattle.std.specs.Prelude.{Bool, true, false, ℕ, ◌≡◌, ◌+◌, ◌-◌, ◌*◌, ◌<◌, ◌≤◌, ◌==◌, List, [], ◌∷◌, ◌++◌, drop, filter, is_none, length, Option, Some, None, slice_get, if◌then◌else◌}
 use Rattle.std.specs.List.{AllByRecursion}
-use Rattle.rv_fields.specs.declared.mode.Mode.TheVariants.{M}
-use Rattle.rv_fields.specs.Decode.{Decoded, decoded, rs1_read, sources}
+use Rattle.std.specs.Option.{option_map_or}
+use Rattle.rv_fields.specs.declared.trap.Trap.{Trap}
+use Rattle.rv_fields.specs.Decode.{Decoded, decoded}
 use Rattle.rv_fields.specs.Effect.{Effect}
 use Rattle.rv_fields.specs.Hart.{Hart}
 use Rattle.rv_fields.specs.Laws.{TellsMore, with_registers}
@@ -10,27 +11,27 @@ use Rattle.rv_fields.specs.Step.{step, with_write}
 use Rattle.rv_step.specs.Views.{hart_seen}
 use Rattle.choice_tree.specs.Draws.{Draws, skipped}
 use Rattle.region_plan.specs.Plan.{Work, hart_count, plan_of}
-use Rattle.region_plan.specs.Rules.{IsMakeableRequest}
+use Rattle.region_plan.specs.Rules.{IsMakeableRequest, most_requests}
 use Rattle.region_plan.specs.Script.{ScriptItem, script_of}
 use Rattle.region_plan.specs.Views.{request_seen}
 use Rattle.region_plan.specs.declared.request.Request as code
 use Rattle.trace_text.specs.Lines.{Line, starting, done}
 use Rattle.trace_text.specs.Traces.{KeepsRanges}
-use Rattle.boot_words.specs.Layout.{code_address}
+use Rattle.boot_words.specs.Layout.{m_handler_at}
 use Rattle.world_face.specs.Events.{Event, Placed, no_parts, nothing_asked}
 use Rattle.hart_task.specs.declared.log.Turned.{Turned}
 use Rattle.hart_task.specs.declared.log.Turned.TheVariants as turned
 use Rattle.hart_task.specs.declared.task.HartTask.{HartTask}
 use Rattle.hart_task.specs.declared.task.Phase as task
 use Rattle.hart_task.specs.declared.task.Phase.TheVariants as tasks
-use Rattle.hart_task.specs.Acts.{Fixing, fixing_lines, is_last, is_made, step_line}
+use Rattle.hart_task.specs.Acts.{Came, Fixing, fixing_lines, is_found, is_last, is_made, step_line}
 use Rattle.hart_task.specs.Asking.{demand_asked, word_asked}
 use Rattle.hart_task.specs.Bus.{word_seen}
 use Rattle.hart_task.specs.Log.{LogSeen, events_of, log_seen}
 use Rattle.hart_task.specs.OneRun.{IsFinishedRun, RunsTo, all_lines}
 use Rattle.hart_task.specs.Schedule.{ends_hart}
-use Rattle.hart_task.specs.State.{HartState, Phase, at_end, between, entries_at_first, is_done, making}
-use Rattle.hart_task.specs.Stepping.{fixed_in, late_registers}
+use Rattle.hart_task.specs.State.{HartState, Phase, at_end, between, entries_at_first, finding, handled, is_done, making}
+use Rattle.hart_task.specs.Stepping.{fixed_in, late_registers, named_by}
 
 -- a task without where it lies in memory
 pub record TaskSeen : Type 0 where
@@ -48,6 +49,7 @@ task_seen t = record { hart = hart_seen t.hart; phase = t.phase; begun = t.begun
 abbrev pub phase_seen : task.Phase → Phase
 phase_seen tasks.Between = between
 phase_seen (tasks.Making m) = making (record { k = m.k; words = word_asked m.request ∷ []; sequel = is_done (demand_asked m.request) })
+phase_seen (tasks.Handling g) = finding g.k handled
 phase_seen tasks.Finished = at_end
 
 -- the requests of a hart, in their order
@@ -63,7 +65,7 @@ state_of work t = record {
   entries = entries_at_first work (plan_of work t.hart.number).space;
   left = drop t.begun (script work t.hart.number);
   count = t.begun;
-  steps = length t.log.words;
+  steps = length t.log.events - t.begun;
   loop = None;
   phase = phase_seen t.phase;
 }
@@ -72,23 +74,15 @@ state_of work t = record {
 abbrev pub words_made : task.Phase → ℕ → ℕ
 words_made tasks.Between begun = begun
 words_made (tasks.Making m) begun = begun - 1
+words_made (tasks.Handling g) begun = begun
 words_made tasks.Finished begun = begun + 1
 
--- the word's row, which has no number in the place of rs1
-abbrev pub IsRowOf : ℕ → Decoded → Type 0
-IsRowOf word d = (decoded word ≡ Some d) × (rs1_read d ≡ d.ops.rs1)
-
--- the request that makes its word is the last that has begun
-abbrev pub IsMaking : task.Phase → ℕ → Type 0
-IsMaking tasks.Between begun = Unit {0}
-IsMaking (tasks.Making m) begun = (m.k + 1 ≡ begun) × IsMakeableRequest (request_seen m.request)
-IsMaking tasks.Finished begun = Unit {0}
-
--- the word at which pc stands, counted from the window's first
-abbrev pub index_at : task.Phase → ℕ → ℕ
-index_at tasks.Between words = words
-index_at (tasks.Making m) words = words
-index_at tasks.Finished words = words - 1
+-- the request under way can be made, or pc is at the handler's next word
+abbrev pub IsInPhase : task.Phase → ℕ → Type 0
+IsInPhase tasks.Between pc = Unit {0}
+IsInPhase (tasks.Making m) pc = IsMakeableRequest (request_seen m.request)
+IsInPhase (tasks.Handling g) pc = pc ≡ m_handler_at + 4 * g.next
+IsInPhase tasks.Finished pc = Unit {0}
 
 -- The task stands where a run of its hart's machine leads.
 pub record Stands (work : Work) (t : TaskSeen) : Type 0 where
@@ -96,47 +90,49 @@ pub record Stands (work : Work) (t : TaskSeen) : Type 0 where
   pub member : t.hart.number < hart_count work
   -- what is known of the hart: its registers are those that have a value
   pub held : TellsMore t.log.present t.hart.x
-  pub zero : t.log.present 0 ≡ Some 0
-  pub mode : t.hart.mode ≡ M
-  pub place : t.hart.pc ≡ code_address t.hart.number (index_at t.phase (length t.log.words))
-  -- the lines fix what starts with a value, and no more was drawn
+  -- the lines fix what starts with a value
   pub fresh : (r : ℕ) → t.log.present r ≡ None → t.log.initial r ≡ None
   pub initial : (r : ℕ) → t.log.initial r ≡ starting (all_lines (events_of t.log.events)) t.hart.number r
   pub stream : t.draws.stream ≡ 2 * t.hart.number + 1
-  pub few : t.draws.drawn ≤ 2 * length t.log.words
+  -- no event draws more than two words
+  pub few : t.draws.drawn ≤ 2 * length t.log.events
   pub words : length t.log.words ≡ words_made t.phase t.begun
-  -- each event begins a request or makes a word
-  pub events : length t.log.events ≡ t.begun + length t.log.words
-  pub making : IsMaking t.phase t.begun
-  pub many : t.begun ≤ length (script work t.hart.number)
+  -- each event begins a request or is a step
+  pub events : t.begun ≤ length t.log.events
+  pub phase : IsInPhase t.phase t.hart.pc
 
 abbrev pub IsTaskOf : Work → HartTask → Type 0
 IsTaskOf work t = Stands work (task_seen t)
+
+-- the most events of a hart: a request begins, makes its word, and may step the six of its handler
+abbrev pub most_events : ℕ
+most_events = 8 * most_requests + 1
 
 -- A finished hart's log: its events are a run from start to end, its words are those that the run made, no more than a page
 -- holds, and its values were fixed by the lines alone.
 pub record IsLogOf (work : Work) (seed h : ℕ) (log : LogSeen) : Type 0 where
   pub run : IsFinishedRun work seed h (events_of log.events)
   pub words : run.end.words ≡ (λ index. slice_get log.words index)
-  pub steps : run.end.steps ≡ length log.words
   pub values : (r : ℕ) → log.initial r ≡ starting (all_lines (events_of log.events)) h r
   pub room : length log.words ≤ 1024
-  pub few : length log.events ≤ 2 * length log.words
+  pub few : length log.events ≤ most_events
 
--- how many events are left until the hart is finished: two for each request, and the ending step
+-- how many events are left until the hart is finished: eight for each request, and the ending step
 abbrev pub phase_left : task.Phase → ℕ
 phase_left tasks.Between = 1
-phase_left (tasks.Making m) = 2
+phase_left (tasks.Making m) = 8
+phase_left (tasks.Handling g) = 7 - g.next
 phase_left tasks.Finished = 0
 
 abbrev pub events_left : Work → TaskSeen → ℕ
-events_left work t = 2 * (length (script work t.hart.number) - t.begun) + phase_left t.phase
+events_left work t = 8 * (length (script work t.hart.number) - t.begun) + phase_left t.phase
 
 -- ---- what a turn is
 
 abbrev pub finished : task.Phase → Bool
 finished tasks.Between = false
 finished (tasks.Making m) = false
+finished (tasks.Handling g) = false
 finished tasks.Finished = true
 
 -- A turn is one event of the hart, at the place that it took in the world; or there was none, since the hart was finished. What a
@@ -154,16 +150,11 @@ IsTurn turned.Finished old new before now = (old.phase ≡ tasks.Finished) × (n
 -- ---- what its kinds of events do to the task
 
 -- what a word reads of the untouched registers gets the next drawn values
-abbrev pub late_of : TaskSeen → Decoded → List Fixing
-late_of t d = late_registers t.draws (filter (λ r. is_none (t.log.present r)) (sources d))
+abbrev pub late_of : TaskSeen → Option Decoded → List Fixing
+late_of t m = late_registers t.draws (filter (λ r. is_none (t.log.present r)) (named_by m))
 
 abbrev pub late_one : TaskSeen → ℕ → List Fixing
 late_one t register = late_registers t.draws (filter (λ r. is_none (t.log.present r)) (register ∷ []))
-
--- the lines of a step that ends a request, or the hart
-abbrev pub ended_lines : ℕ → Option ℕ → Effect → List Line
-ended_lines h (Some k) e = step_line is_made e ∷ done h k ∷ []
-ended_lines h None e = step_line is_last e ∷ []
 
 abbrev pub task_event : ℕ → List Line → Event
 task_event h lines = record { hart = h; parts = no_parts; asked = nothing_asked; lines = lines }
@@ -188,30 +179,75 @@ fixed_task t late = record t {
   log = record t.log { initial = fixed_in t.log.initial late; present = fixed_in t.log.present late };
 }
 
--- the task behind the step of a word
-abbrev pub stepped_task : TaskSeen → ℕ → List Fixing → List Line → ℕ → Effect → Hart → TaskSeen
-stepped_task t word late lines place e hart = record t {
-  hart = hart;
-  draws = skipped t.draws (length late);
-  log = with_event (record t.log {
-    words = t.log.words ++ word ∷ [];
-    initial = fixed_in t.log.initial late;
-    present = with_write (fixed_in t.log.present late) e.rd;
-  }) place (task_event t.hart.number lines);
-}
-
 -- the event took this place in the world
 abbrev pub Commits : ℕ → Event → (List Placed → Type 0) → (List Placed → Type 0) → Type 0
 Commits place event before now = (events : List Placed) → before events → now (events ++ record { place = place; event = event } ∷ [])
 
--- A word was made and stepped, behind which the request of a number is done, or the hart has ended.
-pub record Steps (word : ℕ) (ends : Option ℕ) (old new : TaskSeen) (place : ℕ) (before now : List Placed → Type 0) : Type 0 where
-  pub d : Decoded
-  pub row : IsRowOf word d
+-- ---- a step
+
+-- whose word is stepped: a request's own, that of the handler to which its trap went, by the word's number there, or the last one
+pub data Whose : Type 0 where
+  of_request : ℕ → Whose
+  of_handler : ℕ → ℕ → Whose
+  of_end : Whose
+
+abbrev pub came_by : Whose → Came
+came_by (of_request k) = is_made
+came_by (of_handler k next) = is_found
+came_by of_end = is_last
+
+-- The request that is done then: one that took no trap, or whose handler's last word this was.
+abbrev pub done_by : Whose → Option Trap → Option ℕ
+done_by (of_request k) None = Some k
+done_by (of_request k) (Some trap) = None
+done_by (of_handler k next) trap = if next == 5 then Some k else None
+done_by of_end trap = None
+
+abbrev pub phase_by : Whose → Option Trap → task.Phase
+phase_by (of_request k) None = tasks.Between
+phase_by (of_request k) (Some trap) = tasks.Handling (record { k = k; next = 0 })
+phase_by (of_handler k next) trap = if next == 5 then tasks.Between else tasks.Handling (record { k = k; next = next + 1 })
+phase_by of_end trap = tasks.Finished
+
+-- the words of the window then: one that is found is none of them
+abbrev pub words_by : Whose → List ℕ → ℕ → List ℕ
+words_by (of_request k) words word = words ++ word ∷ []
+words_by (of_handler k next) words word = words
+words_by of_end words word = words ++ word ∷ []
+
+-- the task when a word was stepped, and nothing but the registers noted
+abbrev pub moved_task : TaskSeen → List Fixing → Effect → Hart → TaskSeen
+moved_task t late e hart = record t {
+  hart = hart;
+  draws = skipped t.draws (length late);
+  log = record t.log { initial = fixed_in t.log.initial late; present = with_write (fixed_in t.log.present late) e.rd };
+}
+
+pub record Moves (word : ℕ) (old new : TaskSeen) (effect : Effect) : Type 0 where
+  pub does : step (word_seen old.hart.pc word) (fixed_task old (late_of old (decoded word))).hart ≡ Some (record { effect = effect; hart = new.hart })
+  pub task : new ≡ moved_task old (late_of old (decoded word)) effect new.hart
+
+-- the lines of a step
+abbrev pub told_lines : ℕ → Whose → List Fixing → Effect → List Line
+told_lines h whose late e = fixing_lines h late ++ (step_line (came_by whose) e ∷ option_map_or (λ (k : ℕ). done h k ∷ []) (done_by whose e.trap) [])
+
+-- the task behind it
+abbrev pub stepped_task : TaskSeen → Whose → ℕ → List Fixing → ℕ → Effect → Hart → TaskSeen
+stepped_task t whose word late place e hart = record t {
+  hart = hart;
+  phase = phase_by whose e.trap;
+  draws = skipped t.draws (length late);
+  log = with_event (record t.log {
+    words = words_by whose t.log.words word;
+    initial = fixed_in t.log.initial late;
+    present = with_write (fixed_in t.log.present late) e.rd;
+  }) place (task_event t.hart.number (told_lines t.hart.number whose late e));
+}
+
+-- A word was stepped.
+pub record Steps (whose : Whose) (word : ℕ) (old new : TaskSeen) (place : ℕ) (before now : List Placed → Type 0) : Type 0 where
   pub effect : Effect
-  pub does : step (word_seen old.hart.pc word) (fixed_task old (late_of old d)).hart ≡ Some (record { effect = effect; hart = new.hart })
-  pub lines : List Line
-  pub lines_are : lines ≡ fixing_lines old.hart.number (late_of old d) ++ ended_lines old.hart.number ends effect
-  pub task : new ≡ stepped_task old word (late_of old d) lines place effect new.hart
-  pub ranged : AllByRecursion KeepsRanges lines
-  pub commits : Commits place (task_event old.hart.number lines) before now
+  pub does : step (word_seen old.hart.pc word) (fixed_task old (late_of old (decoded word))).hart ≡ Some (record { effect = effect; hart = new.hart })
+  pub task : new ≡ stepped_task old whose word (late_of old (decoded word)) place effect new.hart
+  pub ranged : AllByRecursion KeepsRanges (told_lines old.hart.number whose (late_of old (decoded word)) effect)
+  pub commits : Commits place (task_event old.hart.number (told_lines old.hart.number whose (late_of old (decoded word)) effect)) before now

@@ -7,7 +7,7 @@ mod stepping;
 mod task;
 
 pub use log::{HartLog, Turned};
-pub use task::{HartTask, Making, Phase};
+pub use task::{Handling, HartTask, Making, Phase};
 
 #[cfg(test)]
 mod tests;

@@ -2,29 +2,33 @@ ghost use Rattle.std.specs.Prelude.{◌≡◌, ◌<◌, IsTrue, IfSome, Some, sl
 ghost use Rattle.rv_fields.specs.Memory.{in_ram};
 ghost use Rattle.rv_fields.specs.Step.{step};
 ghost use Rattle.region_plan.specs.Rules.{IsMakeableRequest};
-ghost use Rattle.region_plan.specs.Views.{request_seen};
+ghost use Rattle.region_plan.specs.Views.{request_seen, sys_seen};
 ghost use Rattle.trace_text.specs.Traces.{IsStep};
 ghost use Rattle.trace_text.specs.Views.{step_seen};
 ghost use Rattle.rv_step.specs.Views.{hart_seen};
-ghost use Rattle.hart_task.specs.Asking.{ins_asked, ins_of, ops_asked, word_asked};
+ghost use Rattle.hart_task.specs.Asking.{ins_asked, word_asked};
+ghost use Rattle.hart_task.specs.Beginning.{sys_word};
 ghost use Rattle.hart_task.specs.Bus.{word_seen};
 ghost use Rattle.hart_task.specs.Plain.{StepsPlainly};
 
 use crate::bus::OneWord;
-use region_plan::{InsChoice, Request};
+use region_plan::{InsChoice, Request, Sys};
 use rv_encode::encode;
-use rv_fields::{Ins, Ops};
+use rv_fields::Ins;
 use rv_step::{Hart, step};
-use trace_fields::TrailText;
+use rv_table::row;
+use trace_fields::{TrailText, TrapText};
 use trace_text::StepLine;
 
-/// The instruction that the request asks for.
-fn ins_of(request: Request) -> Ins
-    ensures { result ≡ ins_of request }
+/// The word that the request makes.
+pub(crate) fn word_of(request: Request) -> u32
+    requires { IsMakeableRequest (request_seen request) }
+    ensures { result ≡ word_asked request }
 {
     match request {
-        Request::Ins { ins, .. } => named(ins),
-        Request::Csr { ins, .. } => ins,
+        Request::Ins { ins, pins } => encode(named(ins), &pins.ops()).unwrap(),
+        Request::Csr { csr, ins, pins } => encode(ins, &pins.csr_ops(csr)).unwrap(),
+        Request::Sys(sys) => sys_word(sys),
     }
 }
 
@@ -35,22 +39,15 @@ fn named(choice: InsChoice) -> Ins
     ins
 }
 
-/// The operands that it gives; the others are 0.
-fn ops_of(request: Request) -> Ops
-    ensures { result ≡ ops_asked request }
+fn sys_word(sys: Sys) -> u32
+    ensures { result ≡ sys_word (sys_seen sys) }
 {
-    match request {
-        Request::Ins { pins, .. } => pins.ops(),
-        Request::Csr { csr, pins, .. } => pins.csr_ops(csr),
+    match sys {
+        Sys::Ecall => row(Ins::Ecall).value,
+        Sys::Ebreak => row(Ins::Ebreak).value,
+        Sys::Zero => 0,
+        Sys::Sfence => row(Ins::SfenceVma).value,
     }
-}
-
-/// The word that the request makes.
-pub(crate) fn word_of(request: Request) -> u32
-    requires { IsMakeableRequest (request_seen request) }
-    ensures { result ≡ word_asked request }
-{
-    encode(ins_of(request), &ops_of(request)).unwrap()
 }
 
 /// Steps the word, which stands at the hart's pc.
@@ -79,6 +76,6 @@ pub(crate) fn step_word(hart: &mut Hart, word: u32) -> StepLine
         rd: stepped.rd,
         access: None,
         trail: TrailText::new(),
-        trap: None,
+        trap: stepped.trap.map(TrapText::of),
     }
 }

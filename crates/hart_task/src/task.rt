@@ -1,5 +1,5 @@
 ghost use Rattle.std.specs.Prelude.{◌≡◌, ℕ, ◌+◌, ◌*◌, ◌++◌, ◌<◌, ◌≤◌, ◌↔◌, [], ◌∷◌, length, List, IsTrue, IfOk, IfSome, OnErr, Ok, Option, Some, None, option_map, slice_get, slice_index};
-ghost use Rattle.rv_fields.specs.Decode.{Decoded};
+ghost use Rattle.rv_fields.specs.Decode.{decoded};
 ghost use Rattle.rv_fields.specs.Memory.{in_ram};
 ghost use Rattle.region_plan.specs.Plan.{Work, hart_count, plan_of};
 ghost use Rattle.region_plan.specs.Request.{no_arms};
@@ -14,16 +14,15 @@ ghost use Rattle.hart_task.specs.Asking.{item_seen};
 ghost use Rattle.trace_text.specs.Views.{step_seen};
 ghost use Rattle.world_face.specs.Views.{event_seen};
 ghost use Rattle.world_face.specs.Views as room;
-ghost use Rattle.hart_task.specs.Task.{ended_lines};
 
 use crate::log::{HartLog, Turned};
 use crate::stepping::{step_word, word_of};
-use boot_words::{code_start, start_csrs};
+use boot_words::{code_start, handler, start_csrs};
 use choice_tree::DrawWords;
 use region_plan::{Item, Job, Request};
 use rv_fields::{Mode, NoMemory};
-use rv_step::Hart;
-use rv_table::decode;
+use rv_step::{Hart, rs1_of};
+use rv_table::{decode, row};
 use std::alloc::Global;
 use trace_fields::Kind;
 use trace_text::{Line, StepLine};
@@ -36,6 +35,9 @@ const END_WORD: u32 = 0x0000_006f;
 /// The most lines of a step: two registers that get their values, the step, and the end of its request.
 const MOST_LINES: usize = 4;
 
+/// The last word of a handler, counted from 0.
+const LAST_HANDLER_WORD: u32 = 5;
+
 /// A request that has begun, and makes its word next.
 #[derive(Clone, Copy, Debug, PartialEq, Eq)]
 pub struct Making {
@@ -44,12 +46,22 @@ pub struct Making {
     pub request: Request,
 }
 
+/// A request whose step took a trap, and which is done when the handler has returned.
+#[derive(Clone, Copy, Debug, PartialEq, Eq)]
+pub struct Handling {
+    /// The number of the request.
+    pub k: u32,
+    /// The word of the handler that is stepped next, counted from 0.
+    pub next: u32,
+}
+
 /// How far a hart is with its requests.
 #[derive(Clone, Copy, Debug, PartialEq, Eq)]
 pub enum Phase {
     /// No request is under way.
     Between,
     Making(Making),
+    Handling(Handling),
     /// The ending step was made.
     Finished,
 }
@@ -67,11 +79,13 @@ pub struct HartTask {
 }
 
 impl HartTask {
+    ghost use Rattle.std.specs.Prelude.{◌≢◌};
+    ghost use Rattle.boot_words.specs.Boot.{handler};
     ghost use Rattle.hart_task.specs.Acts.{Fixing, fixing_lines};
     ghost use Rattle.hart_task.specs.Asking.{word_asked};
     ghost use Rattle.hart_task.specs.Log.{HasLogRoom, HasRoomForEvent, log_seen};
     ghost use Rattle.hart_task.specs.Plain.{IsPlainFor};
-    ghost use Rattle.hart_task.specs.Task.{Commits, IsLogOf, IsRowOf, IsTaskOf, IsTurn, Steps, begun_task, events_left, fixed_task, late_of, late_one, script, task_event, task_seen, with_event};
+    ghost use Rattle.hart_task.specs.Task.{Commits, IsLogOf, IsTaskOf, IsTurn, Moves, Steps, begun_task, events_left, fixed_task, late_of, late_one, of_end, of_handler, of_request, script, task_event, task_seen, with_event};
     ghost use Rattle.rv_step.specs.Views.{hart_seen};
 
     /// A hart before its first event, at the start of its code window.
@@ -101,7 +115,8 @@ impl HartTask {
         }
     }
 
-    /// Takes one turn at the template: a request begins, or its word is made and it is done, or the hart ends. The
+    /// Takes one turn at the template: a request begins, its word is made, the handler of its trap goes on, or the hart
+    /// ends. The
     /// job is the one of every turn. What it takes of memory it takes before it changes anything.
     pub fn turn<W: World>(
         &mut self,
@@ -128,6 +143,7 @@ impl HartTask {
                 None => self.end(alloc, world)?,
             },
             Phase::Making(making) => self.make(alloc, making, world)?,
+            Phase::Handling(handling) => self.handle(alloc, handling, world)?,
             Phase::Finished => return Ok(Turned::Finished),
         };
         Ok(Turned::Event { place })
@@ -193,7 +209,7 @@ impl HartTask {
         Ok(place)
     }
 
-    /// The request under way makes its word, and is done.
+    /// The request under way makes its word. It is done then, unless its step takes a trap.
     fn make<W: World>(
         &mut self,
         alloc: Global,
@@ -201,21 +217,61 @@ impl HartTask {
         world: &mut W,
     ) -> Result<u64, NoMemory>
         requires makeable { IsMakeableRequest (request_seen making.request) }
-        requires row { (d : Decoded) × IsRowOf (word_asked making.request) d }
         requires plain { IsPlainFor (hart_seen self.old.hart) (word_asked making.request) }
         requires zero { slice_index self.old.hart.x 0 ≡ 0 }
         requires in_ram { IsTrue (in_ram self.old.hart.pc 4) }
-        requires few { self.old.draws.drawn ≤ 2002 }
+        requires few { self.old.draws.drawn + 2 < u64.MAX }
         requires room { 0 < W.room world.old }
-        ensures steps { IfOk result (λ place. Steps (word_asked making.request) (Some making.k) (task_seen self.old) (record (task_seen self.new) { phase = self.old.phase }) place (W.stands world.old) (W.stands world.new)) }
-        ensures phase { IfOk result (λ place. self.new.phase ≡ Phase.Between) }
+        ensures steps { IfOk result (λ place. Steps (of_request making.k) (word_asked making.request) (task_seen self.old) (task_seen self.new) place (W.stands world.old) (W.stands world.new)) }
         ensures room { IfOk result (λ place. W.room world.new + 1 ≡ W.room world.old) }
         ensures unchanged { OnErr result (task_seen self.new ≡ task_seen self.old) }
         ensures quiet { OnErr result (world.new ≡ world.old) }
     {
-        let place = self.step(alloc, word_of(making.request), Some(making.k), world)?;
-        self.phase = Phase::Between;
-        Ok(place)
+        let word = word_of(making.request);
+        let (mut event, step) = self.step(alloc, word)?;
+        let is_trapped = step.trap.is_some();
+        self.log.add_word(word);
+        event.add(Line::S(step));
+        if is_trapped {
+            self.phase = Phase::Handling(Handling {
+                k: making.k,
+                next: 0,
+            });
+        } else {
+            self.done(making.k, &mut event);
+        }
+        Ok(self.commit(event, world))
+    }
+
+    /// The hart steps the next word of the handler. Behind the last one the request that took the trap is done.
+    fn handle<W: World>(
+        &mut self,
+        alloc: Global,
+        handling: Handling,
+        world: &mut W,
+    ) -> Result<u64, NoMemory>
+        requires next { handling.next < 6 }
+        requires plain { IsPlainFor (hart_seen self.old.hart) (slice_index (handler Mode.M) handling.next) }
+        requires zero { slice_index self.old.hart.x 0 ≡ 0 }
+        requires in_ram { IsTrue (in_ram self.old.hart.pc 4) }
+        requires few { self.old.draws.drawn + 2 < u64.MAX }
+        requires room { 0 < W.room world.old }
+        ensures steps { IfOk result (λ place. Steps (of_handler handling.k handling.next) (slice_index (handler Mode.M) handling.next) (task_seen self.old) (task_seen self.new) place (W.stands world.old) (W.stands world.new)) }
+        ensures room { IfOk result (λ place. W.room world.new + 1 ≡ W.room world.old) }
+        ensures unchanged { OnErr result (task_seen self.new ≡ task_seen self.old) }
+        ensures quiet { OnErr result (world.new ≡ world.old) }
+    {
+        let (mut event, step) = self.step(alloc, handler(Mode::M)[handling.next as usize])?;
+        event.add(Line::F(step));
+        if handling.next == LAST_HANDLER_WORD {
+            self.done(handling.k, &mut event);
+        } else {
+            self.phase = Phase::Handling(Handling {
+                next: handling.next + 1,
+                ..handling
+            });
+        }
+        Ok(self.commit(event, world))
     }
 
     /// The hart makes its ending step.
@@ -223,64 +279,76 @@ impl HartTask {
         requires plain { IsPlainFor (hart_seen self.old.hart) 0x6f }
         requires zero { slice_index self.old.hart.x 0 ≡ 0 }
         requires in_ram { IsTrue (in_ram self.old.hart.pc 4) }
-        requires few { self.old.draws.drawn ≤ 2002 }
+        requires few { self.old.draws.drawn + 2 < u64.MAX }
         requires room { 0 < W.room world.old }
-        ensures steps { IfOk result (λ place. Steps 0x6f None (task_seen self.old) (record (task_seen self.new) { phase = self.old.phase }) place (W.stands world.old) (W.stands world.new)) }
-        ensures phase { IfOk result (λ place. self.new.phase ≡ Phase.Finished) }
+        ensures steps { IfOk result (λ place. Steps of_end 0x6f (task_seen self.old) (task_seen self.new) place (W.stands world.old) (W.stands world.new)) }
         ensures room { IfOk result (λ place. W.room world.new + 1 ≡ W.room world.old) }
         ensures unchanged { OnErr result (task_seen self.new ≡ task_seen self.old) }
         ensures quiet { OnErr result (world.new ≡ world.old) }
     {
-        let place = self.step(alloc, END_WORD, None, world)?;
+        let (mut event, step) = self.step(alloc, END_WORD)?;
+        self.log.add_word(END_WORD);
+        event.add(Line::E(step));
         self.phase = Phase::Finished;
-        Ok(place)
+        Ok(self.commit(event, world))
     }
 
-    /// Makes the word at pc and steps it; what it reads of the untouched registers gets values first. The request of
-    /// the number is done then, or, where there is none, the hart has ended.
-    fn step<W: World>(
-        &mut self,
-        alloc: Global,
-        word: u32,
-        done: Option<u32>,
-        world: &mut W,
-    ) -> Result<u64, NoMemory>
-        requires row { (d : Decoded) × IsRowOf word d }
+    /// Steps the word at pc. What it reads of the untouched registers gets values first, of which the event tells. There
+    /// is room in it for two lines more, and in the log for it and for a word.
+    fn step(&mut self, alloc: Global, word: u32) -> Result<(Event, StepLine), NoMemory>
         requires plain { IsPlainFor (hart_seen self.old.hart) word }
         requires zero { slice_index self.old.hart.x 0 ≡ 0 }
         requires in_ram { IsTrue (in_ram self.old.hart.pc 4) }
-        requires few { self.old.draws.drawn ≤ 2002 }
-        requires room { 0 < W.room world.old }
-        ensures steps { IfOk result (λ place. Steps word done (task_seen self.old) (task_seen self.new) place (W.stands world.old) (W.stands world.new)) }
-        ensures room { IfOk result (λ place. W.room world.new + 1 ≡ W.room world.old) }
+        requires few { self.old.draws.drawn + 2 < u64.MAX }
+        ensures moves { IfOk result (λ r. Moves word (task_seen self.old) (task_seen self.new) (step_seen r.1)) }
+        ensures event { IfOk result (λ r. event_seen r.0
+            ≡ task_event self.old.hart.number (fixing_lines self.old.hart.number (late_of (task_seen self.old) (decoded word)))) }
+        ensures ranges { IfOk result (λ r. AllByRecursion KeepsRanges (fixing_lines self.old.hart.number (late_of (task_seen self.old) (decoded word)))) }
+        ensures told { IfOk result (λ r. IsStep (step_seen r.1)) }
+        ensures lines { IfOk result (λ r. room.HasRoomForLines 2 r.0) }
+        ensures log { IfOk result (λ r. HasLogRoom self.new.log) }
         ensures unchanged { OnErr result (task_seen self.new ≡ task_seen self.old) }
-        ensures quiet { OnErr result (world.new ≡ world.old) }
     {
         self.log.reserve()?;
         let mut event = Event::new(alloc, self.hart.number, MOST_LINES)?;
         self.fix_sources(word, &mut event);
         let step = step_word(&mut self.hart, word);
         self.log.write(step.rd);
-        self.log.add_word(word);
-        tell_step(&mut event, step, done);
-        Ok(self.commit(event, world))
+        Ok((event, step))
+    }
+
+    /// The request is done, which the event tells.
+    fn done(&mut self, k: u32, event: &mut Event)
+        requires { room.HasRoomForLines 1 event.old }
+        ensures task { task_seen self.new ≡ record (task_seen self.old) { phase = Phase.Between } }
+        ensures event { event_seen event.new
+            ≡ record (event_seen event.old) { lines = (event_seen event.old).lines ++ told.done self.old.hart.number k ∷ [] } }
+        ensures ranges { KeepsRanges (told.done self.old.hart.number k) }
+        ensures log { HasRoomForEvent self.old.log → HasRoomForEvent self.new.log }
+    {
+        event.add(Line::D {
+            hart: self.hart.number,
+            k,
+        });
+        self.phase = Phase::Between;
     }
 
     /// Gives the untouched registers that the word reads their starting values.
     fn fix_sources(&mut self, word: u32, event: &mut Event)
-        requires row { (d : Decoded) × IsRowOf word d }
         requires room { room.HasRoomForLines 4 event.old }
-        requires few { self.old.draws.drawn ≤ 2002 }
-        ensures task { (d : Decoded) → IsRowOf word d → task_seen self.new ≡ fixed_task (task_seen self.old) (late_of (task_seen self.old) d) }
-        ensures event { (d : Decoded) → IsRowOf word d → event_seen event.new
-            ≡ record (event_seen event.old) { lines = (event_seen event.old).lines ++ fixing_lines self.old.hart.number (late_of (task_seen self.old) d) } }
-        ensures ranges { (d : Decoded) → IsRowOf word d → AllByRecursion KeepsRanges (fixing_lines self.old.hart.number (late_of (task_seen self.old) d)) }
+        requires few { self.old.draws.drawn + 2 < u64.MAX }
+        ensures task { task_seen self.new ≡ fixed_task (task_seen self.old) (late_of (task_seen self.old) (decoded word)) }
+        ensures event { event_seen event.new
+            ≡ record (event_seen event.old) { lines = (event_seen event.old).lines ++ fixing_lines self.old.hart.number (late_of (task_seen self.old) (decoded word)) } }
+        ensures ranges { AllByRecursion KeepsRanges (fixing_lines self.old.hart.number (late_of (task_seen self.old) (decoded word))) }
         ensures log { HasLogRoom self.old.log → HasLogRoom self.new.log }
         ensures room { room.HasRoomForLines 2 event.new }
         ensures zero { slice_index self.old.hart.x 0 ≡ 0 → slice_index self.new.hart.x 0 ≡ 0 }
     {
-        let (_, ops) = decode(word).unwrap();
-        self.fix_source(ops.rs1, event);
+        let Some((ins, ops)) = decode(word) else {
+            return;
+        };
+        self.fix_source(rs1_of(row(ins).form, &ops), event);
         self.fix_source(ops.rs2, event);
     }
 
@@ -288,7 +356,7 @@ impl HartTask {
     fn fix_source(&mut self, register: u8, event: &mut Event)
         requires register { register < 32 }
         requires room { room.HasRoomForLines 1 event.old }
-        requires few { self.old.draws.drawn ≤ 2003 }
+        requires few { self.old.draws.drawn + 1 < u64.MAX }
         ensures task { task_seen self.new ≡ fixed_task (task_seen self.old) (late_one (task_seen self.old) register) }
         ensures event { event_seen event.new
             ≡ record (event_seen event.old) { lines = (event_seen event.old).lines ++ fixing_lines self.old.hart.number (late_one (task_seen self.old) register) } }
@@ -336,23 +404,6 @@ fn request_in(item: &Item) -> Request
     }
 }
 
-/// Tells of a step, behind which the request of the number is done, or, where there is none, the hart has ended.
-fn tell_step(event: &mut Event, step: StepLine, done: Option<u32>)
-    requires { room.HasRoomForLines 2 event.old }
-    ensures ranges { IsStep (step_seen step) → AllByRecursion KeepsRanges (ended_lines event.old.hart done (step_seen step)) }
-    ensures event { event_seen event.new ≡ record (event_seen event.old) { lines = (event_seen event.old).lines ++ ended_lines event.old.hart done (step_seen step) } }
-{
-    let Some(k) = done else {
-        event.add(Line::E(step));
-        return;
-    };
-    event.add(Line::S(step));
-    event.add(Line::D {
-        hart: event.hart,
-        k,
-    });
-}
-
 /// The stream from which a hart draws all but its picks.
 fn stream_of(hart: u8) -> u64
     ensures { result ≡ 2 * hart + 1 }
@@ -367,5 +418,6 @@ fn kind_of(request: Request) -> Kind
     match request {
         Request::Ins { .. } => Kind::Ins,
         Request::Csr { .. } => Kind::Csr,
+        Request::Sys(_) => Kind::Sys,
     }
 }

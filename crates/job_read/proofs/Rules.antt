@@ -13,15 +13,17 @@ use Rattle.rv_fields.specs.RowTable.{ins_called}
 use Rattle.rv_fields.proofs.Options.{found}
 use Rattle.region_plan.specs.Pinned.{bare_pins}
 use Rattle.region_plan.specs.declared.job.Job.{Job}
-use Rattle.region_plan.specs.Plan.{HartPlan, Work, no_hart}
+use Rattle.region_plan.specs.Plan.{HartPlan, Work}
 use Rattle.region_plan.specs.Request.{Items, Pins, Request, no_items, one}
-use Rattle.region_plan.specs.Rules.{IsMakeable, IsMakeableRequest, IsPlainHart, KeepsRules, most_requests}
+use Rattle.region_plan.specs.declared.request.Sys.{Sys}
+use Rattle.region_plan.specs.declared.request.Sys.TheVariants.{Ecall, Ebreak, Zero, Sfence}
+use Rattle.region_plan.specs.Rules.{IsMakeable, IsMakeableRequest, IsMakeableSys, IsPlainHart, KeepsRules, most_requests}
 use Rattle.region_plan.specs.Script.{script_of}
-use Rattle.region_plan.specs.Views.{work_of, work_with}
+use Rattle.region_plan.specs.Views.{sys_seen, work_of, work_with}
 use Rattle.json_keys.specs.declared.input.InputFault.{InputFault}
 use Rattle.json_keys.specs.Input.{ReadsAs}
 use Rattle.json_keys.specs.Json.{integer, object_of, natural_at, text_at}
-use Rattle.job_read.specs.Accepted.{csr_request, given_by, ins_request, pins_of, register, request_by, request_of, way_called, items_of, template_at, accepted_hart, harts_of, harts_at, job_of}
+use Rattle.job_read.specs.Accepted.{csr_request, given_by, ins_request, pins_of, register, request_by, request_of, sys_called, sys_request, way_called, items_of, hart_plan, template_at, accepted_hart, harts_of, harts_at, job_of}
 
 -- the operands that are read are all that an item has
 pins_alone : (zero_rs1 : Bool) (members : Members) (pins : Pins) → pins_of zero_rs1 members ≡ Some pins
@@ -53,14 +55,29 @@ csr_makeable members request e =
     let passed = cond_some _ _ request pins.2 in
     subst IsMakeableRequest passed.1 (record { whole = (and_parts _ _ passed.0).1; alone = pins_alone way.0.zero_rs1 members pins.0 pins.1 })
 
-makeable_by : (leading : Option Data) (members : Members) (request : Request) → request_by leading members ≡ Some request → IsMakeableRequest request
-makeable_by (Some ins) members request e = ins_makeable members request e
-makeable_by None members request e = csr_makeable members request e
+-- a template may ask for each word that has a name
+sys_may : (sys : Sys) → IsMakeableSys (sys_seen sys)
+sys_may Ecall = tt
+sys_may Ebreak = tt
+sys_may Zero = tt
+sys_may Sfence = tt
+
+sys_makeable : (members : Members) (request : Request) → sys_request members ≡ Some request → IsMakeableRequest request
+sys_makeable members request e =
+    let name = found (text_at (codes "sys") members) _ request e in
+    let sys = found (sys_called name.0) _ request name.2 in
+    let passed = cond_some _ _ request sys.2 in
+    subst IsMakeableRequest passed.1 (sys_may sys.0)
+
+makeable_by : (ins csr : Option Data) (members : Members) (request : Request) → request_by ins csr members ≡ Some request → IsMakeableRequest request
+makeable_by (Some ins) csr members request e = ins_makeable members request e
+makeable_by None (Some csr) members request e = csr_makeable members request e
+makeable_by None None members request e = sys_makeable members request e
 
 request_makeable : (value : Data) (request : Request) → request_of value ≡ Some request → IsMakeableRequest request
 request_makeable value request e =
     let members = found (as_object value) _ request e in
-    makeable_by (get_member (codes "ins") members.0) members.0 request members.2
+    makeable_by (get_member (codes "ins") members.0) (get_member (codes "csr") members.0) members.0 request members.2
 
 -- accepted items can be made, and are as many as their values
 items_makeable : (values : Values) (items : Items) → items_of values ≡ Some items
@@ -75,26 +92,48 @@ items_makeable (item value values) items e =
     let rest = items_makeable values others.0 others.1 in
     rw (← all) (((request_makeable value first.0 first.1, refl), rest.0), ap suc rest.1)
 
--- an accepted template has no more items than its code page has room for
-template_has_room : (hart : Data) (values : Values) → template_at hart ≡ Some values → items_len values ≤ most_requests
-template_has_room hart values e =
-    let members = found (object_of 3 hart) _ values e in
-    let mode = found (text_at (codes "mode") members.0) _ values members.2 in
-    let code_pages = found (natural_at (codes "code_pages") members.0) _ values mode.2 in
-    let template = found (get_member (codes "template") members.0) _ values code_pages.2 in
+-- an accepted template has no more items than a page of code has room for
+template_has_room : (members : Members) (values : Values) → template_at members ≡ Some values → items_len values ≤ most_requests
+template_has_room members values e =
+    let template = found (get_member (codes "template") members) _ values e in
     let listed = found (as_array template.0) _ values template.2 in
     let passed = cond_some _ _ values listed.2 in
-    rw (← passed.1) (leb-true _ _ (and_parts _ _ passed.0).1)
+    rw (← passed.1) (leb-true _ _ passed.0)
+
+-- without its template, an accepted hart is a plain one
+plan_plain : (members : Members) (plan : HartPlan) → hart_plan members ≡ Some plan → IsPlainHart plan
+plan_plain members plan e =
+    let room : 0 ≤ most_requests = omega arith in
+    let mode = found (text_at (codes "mode") members) _ plan e in
+    let code_pages = found (natural_at (codes "code_pages") members) _ plan mode.2 in
+    let passed = cond_some _ _ plan code_pages.2 in
+    let most = and_parts _ _ passed.0 in
+    subst IsPlainHart passed.1 (record {
+      plain = refl;
+      some_pages = leb-true _ _ (and_parts _ _ most.0).1;
+      most_pages = leb-true _ _ most.1;
+      room = room;
+      requests = tt;
+    })
 
 -- an accepted hart is a plain one
 hart_plain : (value : Data) (hart : HartPlan) → accepted_hart value ≡ Some hart → IsPlainHart hart
 hart_plain value hart e =
-    let values = found (template_at value) _ hart e in
+    let members = found (object_of 3 value) _ hart e in
+    let plan = found (hart_plan members.0) _ hart members.2 in
+    let values = found (template_at members.0) _ hart plan.2 in
     let items = found (items_of values.0) _ hart values.2 in
+    let bare = plan_plain members.0 plan.0 plan.1 in
     let made = items_makeable values.0 items.0 items.1 in
-    let room = template_has_room value values.0 values.1 in
-    let is_hart : record no_hart { template = items.0 } ≡ hart = same_Some _ _ items.2 in
-    subst IsPlainHart is_hart (record { plain = refl; room = omega (arith, made.1, room); requests = made.0 })
+    let room = template_has_room members.0 values.0 values.1 in
+    let is_hart : record plan.0 { template = items.0 } ≡ hart = same_Some _ _ items.2 in
+    subst IsPlainHart is_hart (record {
+      plain = ap (λ (p : HartPlan). record p { template = items.0 }) bare.plain;
+      some_pages = bare.some_pages;
+      most_pages = bare.most_pages;
+      room = omega (arith, made.1, room);
+      requests = made.0;
+    })
 
 -- accepted harts are plain ones, and as many as their values
 harts_plain : (values : Values) (harts : List HartPlan) → harts_of values ≡ Some harts

@@ -12,10 +12,12 @@ use Rattle.rv_fields.specs.Csr.{csr_called}
 use Rattle.rv_fields.specs.Play.{most_harts}
 use Rattle.rv_fields.specs.RowTable.{ins_called}
 use Rattle.region_plan.specs.Pinned.{bare_pins, is_csr_pinned, is_fully_pinned}
-use Rattle.region_plan.specs.Plan.{HartPlan, Work, no_hart, plain_code_pages}
-use Rattle.region_plan.specs.Request.{Items, Pins, Request, a_csr, a_plain, an_ins, named_ins, no_items, one}
-use Rattle.region_plan.specs.Rules.{most_requests}
-use Rattle.region_plan.specs.Views.{work_with}
+use Rattle.region_plan.specs.Plan.{HartPlan, Work, no_hart}
+use Rattle.region_plan.specs.declared.request.Sys.{Sys}
+use Rattle.region_plan.specs.declared.request.Sys.TheVariants.{Ecall, Ebreak, Zero, Sfence}
+use Rattle.region_plan.specs.Request.{Items, Pins, Request, a_csr, a_plain, a_sys, an_ins, named_ins, no_items, one}
+use Rattle.region_plan.specs.Rules.{most_code_pages, most_requests}
+use Rattle.region_plan.specs.Views.{sys_seen, work_with}
 use Rattle.job_read.specs.declared.requests.CsrWay.{CsrWay}
 use Rattle.json_keys.specs.Json.{document, integer, natural, natural_at, object_of, text_at}
 
@@ -87,17 +89,35 @@ csr_request members = do
   pins ← pins_of way.zero_rs1 members
   csr_request_for csr way.ins pins (members_len members)
 
+-- ---- words of their own
+
+-- the word that is called so
+abbrev pub sys_called : List ℕ → Option Sys
+sys_called name =
+    if bytes_eq name (codes "ecall") then Some Ecall
+    else (if bytes_eq name (codes "ebreak") then Some Ebreak
+    else (if bytes_eq name (codes "zero") then Some Zero
+    else (if bytes_eq name (codes "sfence") then Some Sfence else None)))
+
+-- {"sys":NAME}, and no more
+abbrev pub sys_request : Members → Option Request
+sys_request members = do
+  name ← text_at (codes "sys") members
+  sys ← sys_called name
+  if members_len members == 1 then Some (a_plain (a_sys (sys_seen sys))) else None
+
 -- ---- items
 
--- by the key that leads the item
-abbrev pub request_by : Option Data → Members → Option Request
-request_by (Some ins) members = ins_request members
-request_by None members = csr_request members
+-- by the keys that lead items, the first that it has
+abbrev pub request_by : Option Data → Option Data → Members → Option Request
+request_by (Some ins) csr members = ins_request members
+request_by None (Some csr) members = csr_request members
+request_by None None members = sys_request members
 
 abbrev pub request_of : Data → Option Request
 request_of value = do
   members ← as_object value
-  request_by (get_member (codes "ins") members) members
+  request_by (get_member (codes "ins") members) (get_member (codes "csr") members) members
 
 -- the items of a template: each is a request
 abbrev pub items_of : Values → Option Items
@@ -107,24 +127,30 @@ items_of (item value values) = do
   items ← items_of values
   Some (one request items)
 
--- the template of {"mode":"M","code_pages":1,"template":[..]}, with no more items than a template may have
-abbrev pub template_at : Data → Option Values
-template_at hart = do
-  members ← object_of 3 hart
+-- what a hart is but for its template: in mode M, with 1 to 256 pages of code
+abbrev pub hart_plan : Members → Option HartPlan
+hart_plan members = do
   mode ← text_at (codes "mode") members
   code_pages ← natural_at (codes "code_pages") members
-  template ← get_member (codes "template") members
-  values ← as_array template
-  if bytes_eq mode (codes "M") && (code_pages == plain_code_pages) && nat_le (items_len values) most_requests
-      then Some values
+  if bytes_eq mode (codes "M") && nat_le 1 code_pages && nat_le code_pages most_code_pages
+      then Some (record no_hart { code_pages = code_pages })
       else None
 
--- a hart: in mode M, with one page of code and its template
+-- its template, with no more items than a template may have
+abbrev pub template_at : Members → Option Values
+template_at members = do
+  template ← get_member (codes "template") members
+  values ← as_array template
+  if nat_le (items_len values) most_requests then Some values else None
+
+-- the hart {"mode":"M","code_pages":PAGES,"template":[..]}
 abbrev pub accepted_hart : Data → Option HartPlan
 accepted_hart value = do
-  values ← template_at value
+  members ← object_of 3 value
+  plan ← hart_plan members
+  values ← template_at members
   items ← items_of values
-  Some (record no_hart { template = items })
+  Some (record plan { template = items })
 
 -- each is a hart
 abbrev pub harts_of : Values → Option (List HartPlan)

@@ -1,12 +1,13 @@
 ghost use Rattle.std.specs.Prelude.{◌≡◌, option_map};
-ghost use Rattle.serde_json.specs.View.{view, items_view};
+ghost use Rattle.serde_json.specs.View.{view, items_view, members_view};
 ghost use Rattle.json_keys.specs.Input.{ReadsAs};
+ghost use Rattle.region_plan.specs.Request.{no_items};
 ghost use Rattle.region_plan.specs.Views.{items_seen, planned_hart, work_of};
-ghost use Rattle.job_read.specs.Accepted.{template_at, accepted_hart, harts_of, harts_at};
+ghost use Rattle.job_read.specs.Accepted.{hart_plan, template_at, accepted_hart, harts_of, harts_at};
 
 use crate::requests::items_of;
-use json_keys::{InputFault, natural_at, object_of, text_at, value_at};
-use region_plan::{HartPlan, Item, Job, MOST_REQUESTS, PLAIN_CODE_PAGES, Plan};
+use json_keys::{InputFault, Members, natural_at, object_of, text_at, value_at};
+use region_plan::{HartPlan, Item, Job, MOST_CODE_PAGES, MOST_REQUESTS, Plan};
 use rv_fields::{MOST_HARTS, Mode};
 use serde_json::Value;
 use std::alloc::Global;
@@ -44,25 +45,36 @@ pub(crate) fn harts_of(alloc: Global, values: &[Value]) -> Result<Job, InputFaul
 fn hart_of(alloc: Global, value: &Value) -> Result<(HartPlan, Vec<Item>), InputFault>
     ensures { ReadsAs (λ h. planned_hart h.0 (items_seen h.1.items)) result (accepted_hart (view value.now)) }
 {
-    let values = template_at(value).ok_or(InputFault::NotBuilt)?;
+    let members = object_of(3, value).ok_or(InputFault::NotBuilt)?;
+    let hart = hart_plan(members).ok_or(InputFault::NotBuilt)?;
+    let values = template_at(members).ok_or(InputFault::NotBuilt)?;
     let template = items_of(alloc, values)?;
-    let hart = HartPlan {
-        mode: Mode::M,
-        code_pages: PLAIN_CODE_PAGES,
-    };
     Ok((hart, template))
 }
 
-/// The template of a hart in mode M with one page of code.
-#[tactic(auto, using(json_keys::proofs::Reading::lengths))]
-fn template_at(hart: &Value) -> Option<&[Value]>
-    ensures { option_map (λ vs. items_view vs.now) result ≡ template_at (view hart.now) }
+/// What a hart with these keys is but for its template: in mode M, with 1 to 256 pages of code.
+fn hart_plan(members: &Members) -> Option<HartPlan>
+    ensures { option_map (λ plan. planned_hart plan no_items) result ≡ hart_plan (members_view members.now.entries) }
 {
-    let members = object_of(3, hart)?;
     let mode = text_at("mode", members)?;
     let code_pages = natural_at("code_pages", members)?;
+    if mode == "M" && 1 <= code_pages && code_pages <= u64::from(MOST_CODE_PAGES) {
+        Some(HartPlan {
+            mode: Mode::M,
+            code_pages: code_pages as u32,
+        })
+    } else {
+        None
+    }
+}
+
+/// The template of a hart with these keys.
+#[tactic(auto, using(json_keys::proofs::Reading::lengths))]
+fn template_at(members: &Members) -> Option<&[Value]>
+    ensures { option_map (λ vs. items_view vs.now) result ≡ template_at (members_view members.now.entries) }
+{
     let values = value_at("template", members)?.as_array()?;
-    if mode == "M" && code_pages == u64::from(PLAIN_CODE_PAGES) && values.len() <= MOST_REQUESTS {
+    if values.len() <= MOST_REQUESTS {
         Some(values.as_slice())
     } else {
         None

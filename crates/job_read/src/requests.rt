@@ -4,10 +4,10 @@ ghost use Rattle.serde_json.specs.View.{view, items_view, members_view};
 ghost use Rattle.json_keys.specs.Input.{ReadsAs};
 ghost use Rattle.json_keys.specs.Json.{integer};
 ghost use Rattle.region_plan.specs.Views.{items_seen, pins_seen, request_seen};
-ghost use Rattle.job_read.specs.Accepted.{csr_request, csr_request_for, given_by, ins_request, ins_request_for, items_of, key_count, pins_of, register, request_by, request_of, way_called};
+ghost use Rattle.job_read.specs.Accepted.{csr_request, csr_request_for, given_by, ins_request, ins_request_for, items_of, key_count, pins_of, register, request_by, request_of, sys_called, sys_request, way_called};
 
 use json_keys::{InputFault, Members, text_at, value_at};
-use region_plan::{InsChoice, Item, Pins, Request};
+use region_plan::{InsChoice, Item, Pins, Request, Sys};
 use rv_fields::{Csr, Ins, csr_named};
 use rv_table::by_name;
 use serde_json::Value;
@@ -30,9 +30,10 @@ fn request_of(value: &Value) -> Option<Request>
     ensures { option_map request_seen result ≡ request_of (view value.now) }
 {
     let members = value.as_object()?;
-    match value_at("ins", members) {
-        Some(_) => ins_request(members),
-        None => csr_request(members),
+    match (value_at("ins", members), value_at("csr", members)) {
+        (Some(_), _) => ins_request(members),
+        (None, Some(_)) => csr_request(members),
+        (None, None) => sys_request(members),
     }
 }
 
@@ -103,6 +104,32 @@ fn csr_request_for(csr: Csr, ins: Ins, pins: Pins, keys: usize) -> Option<Reques
         Some(Request::Csr { csr, ins, pins })
     } else {
         None
+    }
+}
+
+/// One word of its own.
+#[tactic(auto, using(json_keys::proofs::Reading::lengths))]
+fn sys_request(members: &Members) -> Option<Request>
+    ensures { option_map request_seen result ≡ sys_request (members_view members.now.entries) }
+{
+    let sys = sys_called(text_at("sys", members)?)?;
+    if members.len() == 1 {
+        Some(Request::Sys(sys))
+    } else {
+        None
+    }
+}
+
+/// The word that is called so.
+fn sys_called(name: &str) -> Option<Sys>
+    ensures { result ≡ sys_called name.now }
+{
+    match name {
+        "ecall" => Some(Sys::Ecall),
+        "ebreak" => Some(Sys::Ebreak),
+        "zero" => Some(Sys::Zero),
+        "sfence" => Some(Sys::Sfence),
+        _ => None,
     }
 }
 

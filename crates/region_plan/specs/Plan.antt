@@ -42,13 +42,9 @@ pub record Work : Type 0 where
   -- the tree names, in the order in which they first occur
   pub trees : List Name
 
--- the pages of code that a plain hart has
-abbrev pub plain_code_pages : ℕ
-plain_code_pages = 1
-
 -- the hart that a job hasn't
 abbrev pub no_hart : HartPlan
-no_hart = record { mode = M; space = None; code = 0; code_pages = plain_code_pages; sum = false; tvm = false; deleg = 0; template = no_items }
+no_hart = record { mode = M; space = None; code = 0; code_pages = 1; sum = false; tvm = false; deleg = 0; template = no_items }
 
 abbrev pub plan_of : Work → ℕ → HartPlan
 plan_of work h = get_or work.harts h no_hart

@@ -9,9 +9,11 @@ use Rattle.region_plan.specs.declared.request.Item as item
 use Rattle.region_plan.specs.declared.request.Item.TheVariants.{One}
 use Rattle.region_plan.specs.declared.request.Pins as pinned
 use Rattle.region_plan.specs.declared.request.Request as asked
-use Rattle.region_plan.specs.declared.request.Request.TheVariants.{Ins, Csr}
-use Rattle.region_plan.specs.Plan.{HartPlan, Work, hart_count, no_hart, plan_of, plain_code_pages}
-use Rattle.region_plan.specs.Request.{InsChoice, Items, Pins, Request, a_csr, a_plain, an_ins, named_ins, no_items, one}
+use Rattle.region_plan.specs.declared.request.Request.TheVariants.{Ins, Csr, Sys}
+use Rattle.region_plan.specs.declared.request.Sys as word
+use Rattle.region_plan.specs.declared.request.Sys.TheVariants.{Ecall, Ebreak, Zero, Sfence}
+use Rattle.region_plan.specs.Plan.{HartPlan, Work, hart_count, no_hart, plan_of}
+use Rattle.region_plan.specs.Request.{InsChoice, Items, Pins, Request, SysWord, a_csr, a_plain, a_sys, an_ins, named_ins, no_items, one, sys_ebreak, sys_ecall, sys_sfence, sys_zero}
 
 abbrev pub choice_seen : choice.InsChoice → InsChoice
 choice_seen (Named ins) = named_ins ins
@@ -19,9 +21,16 @@ choice_seen (Named ins) = named_ins ins
 abbrev pub pins_seen : pinned.Pins → Pins
 pins_seen p = record { rd = p.rd; rs1 = p.rs1; rs2 = p.rs2; imm = p.imm; aqrl = 0; avoid = []; zero_rs1 = p.zero_rs1 }
 
+abbrev pub sys_seen : word.Sys → SysWord
+sys_seen Ecall = sys_ecall
+sys_seen Ebreak = sys_ebreak
+sys_seen Zero = sys_zero
+sys_seen Sfence = sys_sfence
+
 abbrev pub request_seen : asked.Request → Request
 request_seen (Ins ins pins) = a_plain (an_ins (choice_seen ins) (pins_seen pins))
 request_seen (Csr csr ins pins) = a_plain (a_csr csr ins (pins_seen pins))
+request_seen (Sys sys) = a_plain (a_sys (sys_seen sys))
 
 abbrev pub items_seen : List item.Item → Items
 items_seen [] = no_items
@@ -39,7 +48,7 @@ harts_seen (hart ∷ harts) (template ∷ templates) = planned_hart hart templat
 
 -- a hart of a plan, without its template; beyond the plan it is one of mode M
 abbrev pub plan_at : List code.HartPlan → ℕ → HartPlan
-plan_at harts h = planned_hart (get_or harts h (record { mode = M; code_pages = plain_code_pages })) no_items
+plan_at harts h = planned_hart (get_or harts h (record { mode = M; code_pages = no_hart.code_pages })) no_items
 
 -- The plan has as many harts as the work, and says of each what the work says, but for its template.
 pub record IsPlannedBy (harts : List code.HartPlan) (work : Work) : Type 0 where

@@ -7,9 +7,9 @@ mod plan;
 mod request;
 
 pub use job::Job;
-pub use limits::{MOST_REQUESTS, PLAIN_CODE_PAGES};
+pub use limits::{MOST_CODE_PAGES, MOST_REQUESTS};
 pub use plan::{HartPlan, Plan};
-pub use request::{InsChoice, Item, Pins, Request};
+pub use request::{InsChoice, Item, Pins, Request, Sys};
 
 #[cfg(test)]
 mod tests;

@@ -132,6 +132,19 @@ fn may_change(class: Class, csr: Csr, rs1: u8) -> bool
     }
 }
 
+/// A word of its own that a request asks for.
+#[derive(Clone, Copy, Debug, PartialEq, Eq)]
+pub enum Sys {
+    /// `ecall`.
+    Ecall,
+    /// `ebreak`.
+    Ebreak,
+    /// The word 0, which is no instruction.
+    Zero,
+    /// `sfence.vma` of all addresses and all spaces.
+    Sfence,
+}
+
 /// One request.
 #[derive(Clone, Copy, Debug, PartialEq, Eq)]
 pub enum Request {
@@ -139,6 +152,8 @@ pub enum Request {
     Ins { ins: InsChoice, pins: Pins },
     /// One instruction that reads a CSR, and may change it.
     Csr { csr: Csr, ins: Ins, pins: Pins },
+    /// One word, which may take a trap.
+    Sys(Sys),
 }
 
 /// What stands in a template.

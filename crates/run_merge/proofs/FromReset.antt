@@ -34,19 +34,20 @@ AreSmall lines = (h r v : ℕ) → starting lines h r ≡ Some v → (1 ≤ r) �
 
 -- ---- a plain hart
 
-plain_at : (work : Work) (h : ℕ) → KeepsRules work → plan_of work h ≡ record no_hart { template = (plan_of work h).template }
+plain_at : (work : Work) (h : ℕ) → KeepsRules work → plan_of work h ≡ record no_hart { code_pages = (plan_of work h).code_pages; template = (plan_of work h).template }
 plain_at work h keeps = among work.harts h keeps.harts
   where
-    among : (hs : List HartPlan) (k : ℕ) → AllByRecursion IsPlainHart hs → get_or hs k no_hart ≡ record no_hart { template = (get_or hs k no_hart).template }
+    among : (hs : List HartPlan) (k : ℕ) → AllByRecursion IsPlainHart hs
+        → get_or hs k no_hart ≡ record no_hart { code_pages = (get_or hs k no_hart).code_pages; template = (get_or hs k no_hart).template }
     among [] k all = refl
     among (p ∷ ps) zero all = all.0.plain
     among (p ∷ ps) (suc k) all = among ps k all.1
 
 plain_csr : (work : Work) (h : ℕ) (csr : Csr) → KeepsRules work → boot_csr (plan_of work h) h csr ≡ boot_csr no_hart h csr
-plain_csr work h csr keeps = ap (λ (p : HartPlan). boot_csr p h csr) (plain_at work h keeps) ∙ template_apart csr
+plain_csr work h csr keeps = ap (λ (p : HartPlan). boot_csr p h csr) (plain_at work h keeps) ∙ code_apart csr
   where
-    template_apart : (csr : Csr) → boot_csr (record no_hart { template = (plan_of work h).template }) h csr ≡ boot_csr no_hart h csr
-    template_apart csr = elim csr [
+    code_apart : (csr : Csr) → boot_csr (record no_hart { code_pages = (plan_of work h).code_pages; template = (plan_of work h).template }) h csr ≡ boot_csr no_hart h csr
+    code_apart csr = elim csr [
       | Sstatus ↦ refl
       | Stvec ↦ refl
       | Sscratch ↦ refl

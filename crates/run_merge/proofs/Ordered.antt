@@ -19,6 +19,7 @@ use Rattle.hart_task.specs.Turn.{Turned, acted, acts, is_of, turned}
 use Rattle.region_plan.specs.Rules.{KeepsRules}
 use Rattle.hart_task.specs.Log.{LogSeen}
 use Rattle.hart_task.specs.Logs.{AreLogsOf}
+use Rattle.hart_task.specs.Task.{most_events}
 use Rattle.trace_fields.proofs.Joins.{all_append}
 use Rattle.hart_task.proofs.Lined.{answers_effects, begins_effects, refuses_effects, step_effects, told_silent}
 use Rattle.hart_task.proofs.Viewed.{View, turned_view}
@@ -161,7 +162,7 @@ steps_named harts (found e ∷ ls) all = (all.0.hart, steps_named harts ls all.1
 steps_named harts (ending e ∷ ls) all = (all.0.hart, steps_named harts ls all.1)
 steps_named harts (other ∷ ls) all = steps_named harts ls all.1
 
-pub order_ranges : (work : Work) (es : List Event) → IsTrace (hart_count work) (all_lines es) → AllByRecursion StepsOnce es → length es ≤ hart_count work * 2048
+pub order_ranges : (work : Work) (es : List Event) → IsTrace (hart_count work) (all_lines es) → AllByRecursion StepsOnce es → length es ≤ hart_count work * most_events
     → IsOrder (hart_count work) (whole_order (hart_count work) (effects_of (all_lines es)))
 order_ranges work es trace once few =
     let harts : ℕ = hart_count work in
@@ -180,13 +181,13 @@ order_ranges work es trace once few =
 -- ---- the order of a run
 
 logs_short : (work : Work) (seed : ℕ) (logs : List LogSeen) (events : List Event) → AreLogsOf work seed logs events → (h : ℕ) → h < hart_count work
-    → length (filter (is_of_hart h) events) ≤ 2048
+    → length (filter (is_of_hart h) events) ≤ most_events
 logs_short work seed logs events are h small =
     let log = log_at work seed logs events are h small in
     let own = are.logs_are h log.0 log.1 in
     let same = ap length (log_events work seed logs events are h log.0 log.1) in
     let as_many = length-map log.0.events (λ (p : Placed). p.event) in
-    omega (arith, same, as_many, own.few, own.room)
+    omega (arith, same, as_many, own.few)
 
 all_once : (work : Work) (seed : ℕ) (logs : List LogSeen) (events : List Event) → AreLogsOf work seed logs events → AllByRecursion StepsOnce events
 all_once work seed logs events are = of_all StepsOnce (hart_count work) events are.members (λ h small.
@@ -197,7 +198,7 @@ pub order_of_run : (work : Work) (seed : ℕ) (logs : List LogSeen) (events : Li
     → IsOrder (hart_count work) (whole_order (hart_count work) (effects_of (all_lines events)))
 order_of_run work seed logs events keeps are =
     order_ranges work events (trace_is work seed logs events keeps are) (all_once work seed logs events are)
-    (few_events (hart_count work) 2048 events are.members (logs_short work seed logs events are))
+    (few_events (hart_count work) most_events events are.members (logs_short work seed logs events are))
 
 -- its steps are of harts of the job
 pub steps_of_run : (work : Work) (seed : ℕ) (logs : List LogSeen) (events : List Event) → KeepsRules work → AreLogsOf work seed logs events

@@ -80,7 +80,7 @@ code_stretches h [] = []
 code_stretches h (i ∷ is) = record { at = code_start h; bytes = word_bytes i.words; size = 0x1000; flags = 5 } ∷ code_stretches (h + 1) is
 
 -- The program's segments, each readable and executable: the dispatcher's page and the boot blocks of all harts; the pages of
--- both handlers; and for each hart the page of its code.
+-- both handlers; and for each hart the first page of its code.
 abbrev pub program : Work → List HartImage → List Stretch
 program work harts =
     record { at = dispatcher_at; bytes = laid dispatcher_at (startup_pieces work (initial_in harts)); size = 0x1000 + hart_count work * 0x1000; flags = 5 }

@@ -121,7 +121,7 @@ fn handler_segment(alloc: Global) -> Result<Segment, NoMemory>
     })
 }
 
-/// The page of a hart's code.
+/// The first page of a hart's code.
 fn code_segment(alloc: Global, hart: u8, words: &[u32]) -> Result<Segment, NoMemory>
     ensures { IfOk result (λ s. stretch_of s
         ≡ record { at = code_start hart; bytes = word_bytes words.now; size = 0x1000; flags = 5 }) }

@@ -13,5 +13,5 @@ pub use bus::Bus;
 pub use hart::{Hart, Stepped};
 pub use rv_csr::CsrFile;
 pub use rv_fields::{AccessKind, Accessed, Mode, Reserved, Trap};
-pub use stepping::step;
+pub use stepping::{rs1_of, step};
 pub use sv_walk::{PteAt, PteSource, Trail};

@@ -199,8 +199,8 @@ impl Hart {
     }
 }
 
-/// The register that is read as rs1: x0 where a number stands in its place.
-fn rs1_of(form: Form, ops: &Ops) -> u8
+/// The register that an instruction of the form reads as rs1: x0 where a number stands in its place.
+pub fn rs1_of(form: Form, ops: &Ops) -> u8
     ensures { result ≡ rs1_of_form form ops.now }
 {
     match form {

@@ -23,6 +23,7 @@ runs_last legal after old mid new (l ∷ lines) line run more = runs_last legal 
 acts_unfinished : (work : Work) (s : HartState) (e : Event) (phase : task.Phase) → s.phase ≡ phase_seen phase → acts work s e → finished phase ≡ false
 acts_unfinished work s e tasks.Between is does = refl
 acts_unfinished work s e (tasks.Making m) is does = refl
+acts_unfinished work s e (tasks.Handling g) is does = refl
 acts_unfinished work s e tasks.Finished is does = absurd (subst (λ (p : Phase). is_of work s.hart.number e (turned_in work s (heard_of e) p)) is does)
 
 pub was_unfinished : (work : Work) (old new : TaskSeen) (p : Placed) → Stands work old → Stands work new → new.hart.number ≡ old.hart.number → new.draws.seed ≡ old.draws.seed
@@ -40,6 +41,7 @@ was_unfinished work old new p stood stands number seed log =
 is_between : (phase : task.Phase) → phase_seen phase ≡ between → finished phase ≡ false
 is_between tasks.Between is = refl
 is_between (tasks.Making m) is = refl
+is_between (tasks.Handling g) is = refl
 is_between tasks.Finished is = cc
 
 pub begins_unfinished : (work : Work) (t : TaskSeen) → Stands work t → t.log.events ≡ [] → finished t.phase ≡ false

@@ -9,5 +9,7 @@ finished_is tasks.Between true h = let e : tasks.Between ≡ tasks.Finished = h.
 finished_is tasks.Between false h = refl
 finished_is (tasks.Making m) true h = let e : tasks.Making m ≡ tasks.Finished = h.0 refl in cc
 finished_is (tasks.Making m) false h = refl
+finished_is (tasks.Handling g) true h = let e : tasks.Handling g ≡ tasks.Finished = h.0 refl in cc
+finished_is (tasks.Handling g) false h = refl
 finished_is tasks.Finished true h = refl
 finished_is tasks.Finished false h = h.1 refl

@@ -24,6 +24,7 @@ AllEnded harts events = (h : ℕ) → h < harts → has_ended events h ≡ true
 pub is_at_end : (phase : task.Phase) → finished phase ≡ true → phase ≡ tasks.Finished
 is_at_end tasks.Between is = cc
 is_at_end (tasks.Making m) is = cc
+is_at_end (tasks.Handling g) is = cc
 is_at_end tasks.Finished is = refl
 
 ended_task : (work : Work) (seed next : ℕ) (all : List TaskSeen) (events : List Event) (h : ℕ) (t : TaskSeen) → Running work seed all next events → AllEnded (hart_count work) events → slice_get all h ≡ Some t

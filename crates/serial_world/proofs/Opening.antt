@@ -5,7 +5,7 @@ use Rattle.std.proofs.lemmas.List.{length-append, length-map, map-append}
 use Rattle.std.proofs.lemmas.List.Sums.{sum_by-cons}
 use Rattle.rv_fields.proofs.Lists.{get_of_more}
 use Rattle.region_plan.specs.Plan.{Work, hart_count}
-use Rattle.region_plan.specs.Rules.{KeepsRules}
+use Rattle.region_plan.specs.Rules.{KeepsRules, most_requests}
 use Rattle.hart_task.specs.declared.task.HartTask.{HartTask}
 use Rattle.hart_task.specs.declared.task.Phase as task
 use Rattle.hart_task.specs.declared.task.Phase.TheVariants as tasks
@@ -16,15 +16,20 @@ use Rattle.serial_world.proofs.Ending.{begins_unfinished}
 
 -- ---- no more events are left than there are places
 
-phase_few : (phase : task.Phase) → phase_left phase ≤ 2
+phase_few : (phase : task.Phase) → phase_left phase ≤ 8
 phase_few tasks.Between = omega arith
 phase_few (tasks.Making m) = omega arith
+phase_few (tasks.Handling g) = omega arith
 phase_few tasks.Finished = omega arith
 
-left_few : (work : Work) (t : TaskSeen) → KeepsRules work → Stands work t → events_left work t ≤ 2002
+-- eight for each request, and those of the phase
+abbrev most_left : ℕ
+most_left = 8 * most_requests + 8
+
+left_few : (work : Work) (t : TaskSeen) → KeepsRules work → Stands work t → events_left work t ≤ most_left
 left_few work t keeps stands = let short = script_short work t.hart.number keeps stands.member in let few = phase_few t.phase in omega (arith, short, few)
 
-all_few : (work : Work) (all : List TaskSeen) → ((h : ℕ) (t : TaskSeen) → slice_get all h ≡ Some t → events_left work t ≤ 2002) → sum_by (events_left work) all ≤ 2002 * length all
+all_few : (work : Work) (all : List TaskSeen) → ((h : ℕ) (t : TaskSeen) → slice_get all h ≡ Some t → events_left work t ≤ most_left) → sum_by (events_left work) all ≤ most_left * length all
 all_few work [] few = omega arith
 all_few work (t ∷ all) few =
     let here = few 0 t refl in

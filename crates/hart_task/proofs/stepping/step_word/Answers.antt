@@ -1,5 +1,5 @@
 -- The bus tells the word at pc, so a step is what the word does; and a plain one is what its line tells.
-use Rattle.std.proofs.Common.{Some, ap, sym, ◌∙◌}
+use Rattle.std.proofs.Common.{◌≡◌, Some, ap, rules, sym, ◌∙◌}
 use Rattle.rv_step.specs.Views.{hart_seen, stepped_seen}
 use Rattle.hart_task.specs.Plain.{plain_effect}
 use Rattle.hart_task.proofs.Plainly.{plain_is, plain_room, plain_told}
@@ -14,9 +14,10 @@ step-stepped-requires-clause-room c = plain_room _ (hart_seen c.args.hart.now) c
 pub returns-clause-step : goal.returns-clause-step
 returns-clause-step c =
     let step = c.step-stepped in
+    let trap : c.map.result ≡ step.result.trap = search rules in
     let plain = plain_is (hart_seen c.args.hart.now) c.args.word (stepped_seen step.new.hart step.result) c.requires.plain step.ensures.step in
     step.ensures.step ∙ ap (λ e. Some (record { effect = e; hart = hart_seen step.new.hart })) plain
     ∙ (λ i. Some (record {
-      effect = record (plain_effect (hart_seen c.args.hart.now) c.args.word step.result.rd) { hart = sym step.ensures.number i; trail = sym c.new.ensures i };
+      effect = record (plain_effect (hart_seen c.args.hart.now) c.args.word step.result.rd step.result.trap) { hart = sym step.ensures.number i; trail = sym c.new.ensures i; trap = sym trap i };
       hart = hart_seen step.new.hart;
     }))

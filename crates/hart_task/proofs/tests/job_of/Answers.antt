@@ -24,7 +24,7 @@ keeps : (items : List Item) → length items ≤ 1000 → AllByRecursion (λ ite
 keeps items room all = record {
   some = omega arith;
   most = omega arith;
-  harts = (record { plain = refl; room = omega (arith, room, same_length items); requests = makeable items all }, tt);
+  harts = (record { plain = refl; some_pages = omega arith; most_pages = omega arith; room = omega (arith, room, same_length items); requests = makeable items all }, tt);
   rest = refl;
 }
 

@@ -1,39 +1,57 @@
 -- A turn is one event of the hart's machine, or none where it is finished.
-use Rattle.std.proofs.Common.{◌+◌, ◌-◌, ◌*◌, ◌≡◌, Some, None, ap, arith, length, subst, sym}
-use Rattle.region_plan.specs.Plan.{Work}
-use Rattle.region_plan.specs.Rules.{IsMakeableRequest}
-use Rattle.region_plan.specs.Views.{request_seen, work_of}
-use Rattle.rv_step.specs.Views.{hart_seen}
-use Rattle.hart_task.specs.declared.task.Making.{Making}
-use Rattle.hart_task.specs.declared.task.Phase.TheVariants as tasks
+use Rattle.std.proofs.Common.{◌+◌, ◌-◌, ◌*◌, ap, arith, length, subst, sym}
+use Rattle.std.proofs.lemmas.Option.{same_Some}
+use Rattle.region_plan.specs.Views.{work_of}
 use Rattle.hart_task.specs.Asking.{word_asked}
-use Rattle.hart_task.specs.Task.{IsMaking, Stands, TaskSeen, events_left, phase_left, script, task_seen}
+use Rattle.hart_task.specs.Task.{IsInPhase, Stands, TaskSeen, events_left, of_end, of_handler, of_request, phase_left, script, task_seen}
+use Rattle.hart_task.specs.Turn.{end_word}
 use Rattle.hart_task.proofs.Beginning.{stands_begun}
 use Rattle.hart_task.proofs.Begun.{drop_at}
-use Rattle.hart_task.specs.Turn.{end_word}
-use Rattle.hart_task.proofs.Turns.{end_plainly, left_after, made_plainly, made_row, number_after, ready_between, ready_made, stands_ended, stands_made}
+use Rattle.hart_task.proofs.Found.{handler_word}
+use Rattle.hart_task.proofs.Turns.{may_end, may_handle, may_make, nearer_ended, nearer_handled, nearer_made, number_after, stands_ended, stands_handled, stands_made, turn_of}
 use Rattle.hart_task.proofs.task.HartTask.turn.Goals as goal
 
 pub end-requires-clause-plain : goal.end-requires-clause-plain
-end-requires-clause-plain g c =
-    end_plainly (hart_seen c.args.self.now.hart) (ready_between (work_of c.args.job.now) (task_seen c.args.self.now) c.requires.rules c.requires.task c.in-Between.is)
+end-requires-clause-plain g c = (may_end (work_of c.args.job.now) (task_seen c.args.self.now) c.requires.rules c.requires.task c.in-Between.is).plain
 
--- the request under way is one that can be made
-makeable : (t : TaskSeen) (m : Making) (work : Work) → Stands work t → t.phase ≡ tasks.Making m → IsMakeableRequest (request_seen m.request)
-makeable t m work st is = let making : IsMaking (tasks.Making m) t.begun = subst (λ p. IsMaking p t.begun) is st.making in making.1
+pub end-requires-clause-zero : goal.end-requires-clause-zero
+end-requires-clause-zero g c = same_Some _ _ (may_end (work_of c.args.job.now) (task_seen c.args.self.now) c.requires.rules c.requires.task c.in-Between.is).zero
+
+pub end-requires-clause-in_ram : goal.end-requires-clause-in_ram
+end-requires-clause-in_ram g c = (may_end (work_of c.args.job.now) (task_seen c.args.self.now) c.requires.rules c.requires.task c.in-Between.is).in_it
+
+pub end-requires-clause-few : goal.end-requires-clause-few
+end-requires-clause-few g c = let few = (may_end (work_of c.args.job.now) (task_seen c.args.self.now) c.requires.rules c.requires.task c.in-Between.is).few in omega (arith, few)
 
 pub make-requires-clause-makeable : goal.make-requires-clause-makeable
-make-requires-clause-makeable g c = makeable (task_seen c.args.self.now) c.in-Making.making (work_of c.args.job.now) c.requires.task c.in-Making.is
-
-pub make-requires-clause-row : goal.make-requires-clause-row
-make-requires-clause-row g c =
-    made_row c.in-Making.making.request (makeable (task_seen c.args.self.now) c.in-Making.making (work_of c.args.job.now) c.requires.task c.in-Making.is)
+make-requires-clause-makeable g c = subst (λ p. IsInPhase p c.args.self.now.hart.pc) c.in-Making.is c.requires.task.phase
 
 pub make-requires-clause-plain : goal.make-requires-clause-plain
-make-requires-clause-plain g c =
-    made_plainly c.in-Making.making.request (hart_seen c.args.self.now.hart)
-    (ready_made (work_of c.args.job.now) (task_seen c.args.self.now) c.in-Making.making c.requires.rules c.requires.task c.in-Making.is)
-    (makeable (task_seen c.args.self.now) c.in-Making.making (work_of c.args.job.now) c.requires.task c.in-Making.is)
+make-requires-clause-plain g c = (may_make (work_of c.args.job.now) (task_seen c.args.self.now) c.in-Making.making c.requires.rules c.requires.task c.in-Making.is).plain
+
+pub make-requires-clause-zero : goal.make-requires-clause-zero
+make-requires-clause-zero g c = same_Some _ _ (may_make (work_of c.args.job.now) (task_seen c.args.self.now) c.in-Making.making c.requires.rules c.requires.task c.in-Making.is).zero
+
+pub make-requires-clause-in_ram : goal.make-requires-clause-in_ram
+make-requires-clause-in_ram g c = (may_make (work_of c.args.job.now) (task_seen c.args.self.now) c.in-Making.making c.requires.rules c.requires.task c.in-Making.is).in_it
+
+pub make-requires-clause-few : goal.make-requires-clause-few
+make-requires-clause-few g c = let few = (may_make (work_of c.args.job.now) (task_seen c.args.self.now) c.in-Making.making c.requires.rules c.requires.task c.in-Making.is).few in omega (arith, few)
+
+pub handle-requires-clause-next : goal.handle-requires-clause-next
+handle-requires-clause-next g c = (may_handle (work_of c.args.job.now) (task_seen c.args.self.now) c.in-Handling.handling c.requires.rules c.requires.task c.in-Handling.is).0
+
+pub handle-requires-clause-plain : goal.handle-requires-clause-plain
+handle-requires-clause-plain g c = (may_handle (work_of c.args.job.now) (task_seen c.args.self.now) c.in-Handling.handling c.requires.rules c.requires.task c.in-Handling.is).1.plain
+
+pub handle-requires-clause-zero : goal.handle-requires-clause-zero
+handle-requires-clause-zero g c = same_Some _ _ (may_handle (work_of c.args.job.now) (task_seen c.args.self.now) c.in-Handling.handling c.requires.rules c.requires.task c.in-Handling.is).1.zero
+
+pub handle-requires-clause-in_ram : goal.handle-requires-clause-in_ram
+handle-requires-clause-in_ram g c = (may_handle (work_of c.args.job.now) (task_seen c.args.self.now) c.in-Handling.handling c.requires.rules c.requires.task c.in-Handling.is).1.in_it
+
+pub handle-requires-clause-few : goal.handle-requires-clause-few
+handle-requires-clause-few g c = let few = (may_handle (work_of c.args.job.now) (task_seen c.args.self.now) c.in-Handling.handling c.requires.rules c.requires.task c.in-Handling.is).1.few in omega (arith, few)
 
 pub returns-in_ok-place-in-Some-clause-task : goal.returns-in_ok-place-in-Some-clause-task
 returns-in_ok-place-in-Some-clause-task g c =
@@ -47,37 +65,41 @@ returns-in_ok-place-in-Some-clause-nearer g c place same =
     let work = work_of c.args.job.now in
     let more = (drop_at (script work t.hart.number) t.begun _ c.in-Some.ensures).1 in
     let new = ap (events_left work) c.in_ok-place-in-Some.ensures.task in
-    let old = ap (λ p. 2 * (length (script work t.hart.number) - t.begun) + phase_left p) c.in-Between.is in
+    let old = ap (λ p. 8 * (length (script work t.hart.number) - t.begun) + phase_left p) c.in-Between.is in
     omega (arith, more, new, old)
 
 pub returns-in_ok-place-in-None-clause-task : goal.returns-in_ok-place-in-None-clause-task
-returns-in_ok-place-in-None-clause-task g c =
-    stands_ended (work_of c.args.job.now) (task_seen c.args.self.now) (task_seen c.end.new.self) c.in_ok-place-in-None.place _ _ c.requires.rules c.requires.task c.in-Between.is
-    c.in-None.ensures c.in_ok-place-in-None.ensures.steps c.in_ok-place-in-None.ensures.phase
+returns-in_ok-place-in-None-clause-task g c = stands_ended (work_of c.args.job.now) (task_seen c.args.self.now) (task_seen c.end.new.self) c.in_ok-place-in-None.place _ _ c.requires.rules c.requires.task c.in-Between.is c.in-None.ensures c.in_ok-place-in-None.ensures.steps
 
 pub returns-in_ok-place-in-None-clause-number : goal.returns-in_ok-place-in-None-clause-number
-returns-in_ok-place-in-None-clause-number g c =
-    number_after (task_seen c.args.self.now) (record (task_seen c.end.new.self) { phase = c.args.self.now.phase }) end_word c.in_ok-place-in-None.place None _ _ c.in_ok-place-in-None.ensures.steps
+returns-in_ok-place-in-None-clause-number g c = number_after (task_seen c.args.self.now) (task_seen c.end.new.self) of_end end_word c.in_ok-place-in-None.place _ _ c.in_ok-place-in-None.ensures.steps
+
+pub returns-in_ok-place-in-None-clause-turn : goal.returns-in_ok-place-in-None-clause-turn
+returns-in_ok-place-in-None-clause-turn g c = turn_of (task_seen c.args.self.now) (task_seen c.end.new.self) of_end end_word c.in_ok-place-in-None.place _ _ c.in_ok-place-in-None.ensures.steps
 
 pub returns-in_ok-place-in-None-clause-nearer : goal.returns-in_ok-place-in-None-clause-nearer
-returns-in_ok-place-in-None-clause-nearer g c place same =
-    let left = left_after (work_of c.args.job.now) (task_seen c.args.self.now) (record (task_seen c.end.new.self) { phase = c.args.self.now.phase }) end_word c.in_ok-place-in-None.place None _ _ c.in_ok-place-in-None.ensures.steps in
-    let old = ap phase_left c.in-Between.is in
-    let new = ap phase_left c.in_ok-place-in-None.ensures.phase in
-    omega (arith, left, old, new)
+returns-in_ok-place-in-None-clause-nearer g c place same = nearer_ended (work_of c.args.job.now) (task_seen c.args.self.now) (task_seen c.end.new.self) end_word c.in_ok-place-in-None.place _ _ c.in-Between.is c.in_ok-place-in-None.ensures.steps
 
 pub returns-in_ok-place-in-Making-clause-task : goal.returns-in_ok-place-in-Making-clause-task
-returns-in_ok-place-in-Making-clause-task g c =
-    stands_made (work_of c.args.job.now) (task_seen c.args.self.now) (task_seen c.make.new.self) c.in-Making.making c.in_ok-place-in-Making.place _ _ c.requires.rules c.requires.task
-    c.in-Making.is c.in_ok-place-in-Making.ensures.steps c.in_ok-place-in-Making.ensures.phase
+returns-in_ok-place-in-Making-clause-task g c = stands_made (work_of c.args.job.now) (task_seen c.args.self.now) (task_seen c.make.new.self) c.in-Making.making c.in_ok-place-in-Making.place _ _ c.requires.rules c.requires.task c.in-Making.is c.in_ok-place-in-Making.ensures.steps
 
 pub returns-in_ok-place-in-Making-clause-number : goal.returns-in_ok-place-in-Making-clause-number
-returns-in_ok-place-in-Making-clause-number g c =
-    number_after (task_seen c.args.self.now) (record (task_seen c.make.new.self) { phase = c.args.self.now.phase }) (word_asked c.in-Making.making.request) c.in_ok-place-in-Making.place (Some c.in-Making.making.k) _ _ c.in_ok-place-in-Making.ensures.steps
+returns-in_ok-place-in-Making-clause-number g c = number_after (task_seen c.args.self.now) (task_seen c.make.new.self) (of_request c.in-Making.making.k) (word_asked c.in-Making.making.request) c.in_ok-place-in-Making.place _ _ c.in_ok-place-in-Making.ensures.steps
+
+pub returns-in_ok-place-in-Making-clause-turn : goal.returns-in_ok-place-in-Making-clause-turn
+returns-in_ok-place-in-Making-clause-turn g c = turn_of (task_seen c.args.self.now) (task_seen c.make.new.self) (of_request c.in-Making.making.k) (word_asked c.in-Making.making.request) c.in_ok-place-in-Making.place _ _ c.in_ok-place-in-Making.ensures.steps
 
 pub returns-in_ok-place-in-Making-clause-nearer : goal.returns-in_ok-place-in-Making-clause-nearer
-returns-in_ok-place-in-Making-clause-nearer g c place same =
-    let left = left_after (work_of c.args.job.now) (task_seen c.args.self.now) (record (task_seen c.make.new.self) { phase = c.args.self.now.phase }) (word_asked c.in-Making.making.request) c.in_ok-place-in-Making.place (Some c.in-Making.making.k) _ _ c.in_ok-place-in-Making.ensures.steps in
-    let old = ap phase_left c.in-Making.is in
-    let new = ap phase_left c.in_ok-place-in-Making.ensures.phase in
-    omega (arith, left, old, new)
+returns-in_ok-place-in-Making-clause-nearer g c place same = nearer_made (work_of c.args.job.now) (task_seen c.args.self.now) (task_seen c.make.new.self) c.in-Making.making (word_asked c.in-Making.making.request) c.in_ok-place-in-Making.place _ _ c.in-Making.is c.in_ok-place-in-Making.ensures.steps
+
+pub returns-in_ok-place-in-Handling-clause-task : goal.returns-in_ok-place-in-Handling-clause-task
+returns-in_ok-place-in-Handling-clause-task g c = stands_handled (work_of c.args.job.now) (task_seen c.args.self.now) (task_seen c.handle.new.self) c.in-Handling.handling c.in_ok-place-in-Handling.place _ _ c.requires.rules c.requires.task c.in-Handling.is c.in_ok-place-in-Handling.ensures.steps
+
+pub returns-in_ok-place-in-Handling-clause-number : goal.returns-in_ok-place-in-Handling-clause-number
+returns-in_ok-place-in-Handling-clause-number g c = number_after (task_seen c.args.self.now) (task_seen c.handle.new.self) (of_handler c.in-Handling.handling.k c.in-Handling.handling.next) (handler_word c.in-Handling.handling.next) c.in_ok-place-in-Handling.place _ _ c.in_ok-place-in-Handling.ensures.steps
+
+pub returns-in_ok-place-in-Handling-clause-turn : goal.returns-in_ok-place-in-Handling-clause-turn
+returns-in_ok-place-in-Handling-clause-turn g c = turn_of (task_seen c.args.self.now) (task_seen c.handle.new.self) (of_handler c.in-Handling.handling.k c.in-Handling.handling.next) (handler_word c.in-Handling.handling.next) c.in_ok-place-in-Handling.place _ _ c.in_ok-place-in-Handling.ensures.steps
+
+pub returns-in_ok-place-in-Handling-clause-nearer : goal.returns-in_ok-place-in-Handling-clause-nearer
+returns-in_ok-place-in-Handling-clause-nearer g c place same = nearer_handled (work_of c.args.job.now) (task_seen c.args.self.now) (task_seen c.handle.new.self) c.in-Handling.handling (handler_word c.in-Handling.handling.next) c.in_ok-place-in-Handling.place _ _ c.in-Handling.is (may_handle (work_of c.args.job.now) (task_seen c.args.self.now) c.in-Handling.handling c.requires.rules c.requires.task c.in-Handling.is).0 c.in_ok-place-in-Handling.ensures.steps
