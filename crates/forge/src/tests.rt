@@ -12,6 +12,7 @@ mod faults;
 mod harts;
 mod replays;
 mod rows;
+mod traps;
 
 /// The words of the command that the tests run.
 const WORDS: [&str; 7] = ["make-serial", "j", "t", "7", "e", "o", "r"];
@@ -27,6 +28,10 @@ const ORDER: &[u8] = b"order 1 1\n0 72\n";
 
 const TRACE: &[u8] =
     b"trace 1 1\nq 0 0 ins\ns 0 84000000 84000000 00500093 1:5 - - -\nd 0 0\ne 0 84000004 84000004 0000006f - - - -\n";
+
+/// The first job with the most pages of code.
+const MOST_PAGES: &[u8] =
+    b"{\"version\":1,\"harts\":[{\"mode\":\"M\",\"code_pages\":256,\"template\":[{\"ins\":\"addi\",\"rd\":1,\"rs1\":0,\"imm\":5}]}]}";
 
 /// A job of one hart whose request reads two registers that nothing touched before.
 const SUM_JOB: &[u8] =
@@ -172,6 +177,17 @@ fn the_elf_has_three_segments(rt: HostRuntime) -> Result<(), Fail> {
             "offset {number}"
         );
         assert!(rt; has(elf, size_at, &size.to_le_bytes()), "size {number}");
+    }
+    Ok(())
+}
+
+/// All made words stand in the first page.
+#[test]
+fn more_pages_of_code_change_no_file(rt: HostRuntime) -> Result<(), Fail> {
+    let store = assert_made(&rt, rt.alloc(), JOB, "7", LINE)?;
+    let other = assert_made(&rt, rt.alloc(), MOST_PAGES, "7", LINE)?;
+    for name in ["e", "o", "r"] {
+        assert_holds(&rt, &other, name, store.files.get(name).ok_or("no file")?)?;
     }
     Ok(())
 }

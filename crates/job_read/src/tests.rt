@@ -1,5 +1,5 @@
 use super::*;
-use region_plan::{HartPlan, InsChoice, Item, MOST_REQUESTS, Pins, Request};
+use region_plan::{HartPlan, InsChoice, Item, MOST_REQUESTS, Pins, Request, Sys};
 use rv_fields::{Csr, Ins, MOST_HARTS, Mode};
 use std::alloc::{AllocError, Global};
 use std::test::*;
@@ -221,6 +221,43 @@ fn reads_two_harts_in_order(rt: HostRuntime) -> Result<(), Fail> {
     Ok(())
 }
 
+/// The pages of code of hart 0, where the text is read.
+fn code_pages_in(alloc: Global, text: &str) -> Option<u32> {
+    let job = read_job(alloc, text.as_bytes()).ok()?;
+    Some(job.plan().hart(0).code_pages)
+}
+
+#[test]
+fn reads_the_pages_of_code(rt: HostRuntime) -> Result<(), Fail> {
+    for (code_pages, read) in [
+        ("1", Some(1)),
+        ("2", Some(2)),
+        ("256", Some(256)),
+        ("0", None),
+        ("257", None),
+        ("4294967297", None),
+        ("-1", None),
+        ("1.0", None),
+        (r#""1""#, None),
+    ] {
+        let hart = format!(in rt.alloc();
+            r#"{{"mode":"M","code_pages":{code_pages},"template":[]}}"#
+        )?;
+        let text = file_of(rt.alloc(), hart.as_str())?;
+        assert_eq!(rt;
+            code_pages_in(rt.alloc(), text.as_str()),
+            read,
+            "{code_pages}"
+        );
+        assert_eq!(rt;
+            is_not_built(rt.alloc(), text.as_str()),
+            read.is_none(),
+            "{code_pages}"
+        );
+    }
+    Ok(())
+}
+
 #[test]
 fn reads_up_to_the_most_harts(rt: HostRuntime) -> Result<(), Fail> {
     let most = file_of(rt.alloc(), list_of(rt.alloc(), HART, MOST_HARTS)?.as_str())?;
@@ -326,8 +363,9 @@ fn refuses_other_harts(rt: HostRuntime) -> Result<(), Fail> {
     for harts in [
         "",
         r#"{"mode":"S","code_pages":1,"template":[]}"#,
-        r#"{"mode":"M","code_pages":2,"template":[]}"#,
         r#"{"mode":"M","code_pages":1}"#,
+        r#"{"mode":"M","template":[]}"#,
+        r#"{"mode":"M","pages":1,"template":[]}"#,
         r#"{"mode":"M","code_pages":1,"template":[]},{"mode":"S","code_pages":1,"template":[]}"#,
     ] {
         let text = file_of(rt.alloc(), harts)?;
@@ -350,4 +388,44 @@ fn refuses_other_files(rt: HostRuntime) {
         assert!(rt; is_not_built(rt.alloc(), text), "{text}");
     }
     assert!(rt; matches!(read_job(rt.alloc(), &[0xFF]), Err(InputFault::NotBuilt)));
+}
+
+#[test]
+fn reads_words_of_their_own(rt: HostRuntime) -> Result<(), Fail> {
+    for (name, sys) in [
+        ("ecall", Sys::Ecall),
+        ("ebreak", Sys::Ebreak),
+        ("zero", Sys::Zero),
+        ("sfence", Sys::Sfence),
+    ] {
+        let request = format!(in rt.alloc(); r#"{{"sys":"{name}"}}"#)?;
+        let job = read_job(rt.alloc(), job_of(rt.alloc(), &request)?.as_bytes())?;
+        assert_eq!(rt;
+            job.template(0),
+            [Item::One(Request::Sys(sys))].as_slice(),
+            "{name}"
+        );
+    }
+    Ok(())
+}
+
+#[test]
+fn accepts_no_other_word(rt: HostRuntime) -> Result<(), Fail> {
+    for request in [
+        r#"{"sys":"mret"}"#,
+        r#"{"sys":"sret"}"#,
+        r#"{"sys":"ECALL"}"#,
+        r#"{"sys":0}"#,
+        r#"{"sys":"ecall","rd":0}"#,
+        r#"{"sys":"ecall","avoid":[]}"#,
+        r#"{"sys":"ecall","ins":"ecall"}"#,
+        r#"{"sys":"ecall","csr":"mscratch","op":"read","rd":5}"#,
+        r#"{"ins":"ecall"}"#,
+        r#"{"ins":"sfence.vma","rs1":0,"rs2":0}"#,
+        "{}",
+    ] {
+        let text = job_of(rt.alloc(), request)?;
+        assert!(rt; is_not_built(rt.alloc(), text.as_str()), "{request}");
+    }
+    Ok(())
 }
