@@ -6,8 +6,9 @@ use Rattle.std.specs.List.{list_any, range_with_len}
 use Rattle.std.specs.Prelude.{Bool, List, None, Option, Some, false, filter, get_or, is_none, is_some, length, map, not, pos, true, unwrap_or, ℕ, ℤ, ◌+◌, ◌*◌, ◌/◌, ◌%◌, ◌==◌, ◌&&◌, ◌||◌, ◌∷◌, ◌+ℤ◌, ◌-ℤ◌, [], if◌then◌else◌}
 use Rattle.rv_fields.specs.declared.row_table.Form.TheVariants.{I, S}
 use Rattle.choice_tree.specs.Draws.{Draws, next_word, skipped}
-use Rattle.operand_solver.specs.Operands.{Operand, allowed, behind_operand, if_has, is_among, offset_by, operand, value_of_operand}
+use Rattle.operand_solver.specs.Operands.{Operand, allowed, behind_operand, if_has, offset_by, operand, value_of_operand}
 use Rattle.region_plan.specs.Plan.{Work, may_access, page_of, page_size, page_start, pages_in, regions_of, is_it}
+use Rattle.region_plan.specs.Registers.{is_among}
 use Rattle.region_plan.specs.Request.{Demand, MemRequest, Misaligned, PageFault, Quiet, Window, in_pages, in_region, one_address}
 use Rattle.rv_fields.specs.Decode.{has_rd, has_rs2}
 use Rattle.rv_fields.specs.declared.access.Access.{Access}

@@ -1,5 +1,5 @@
 -- Where a jump may go, and what the next words of the hart's stream make of it.
-use Rattle.std.specs.Prelude.{Bool, List, Option, min, nat_lt, pos, ℕ, ℤ, ◌+◌, ◌-◌, ◌*◌, ◌/◌, ◌%◌, ◌^◌, ◌∷◌, ◌-ℤ◌, []}
+use Rattle.std.specs.Prelude.{Bool, List, Option, min, nat_lt, pos, ℕ, ◌+◌, ◌-◌, ◌*◌, ◌/◌, ◌%◌, ◌^◌, ◌∷◌, ◌-ℤ◌, []}
 use Rattle.choice_tree.specs.Draws.{Draws, next_word, skipped}
 use Rattle.operand_solver.specs.Operands.{Drawn, Operand, allowed, no_operand, offset_by, operand, registers_drawn, registers_of}
 use Rattle.region_plan.specs.Request.{Demand, JumpRequest, Misaligned, PageFault, Pins, Quiet}

@@ -1,3 +1,4 @@
+pub mod Registers
 pub mod Request
 pub mod Plan
 pub mod Pinned

@@ -1,5 +1,5 @@
--- Requests for one instruction all of whose operands are given.
-use Rattle.std.specs.Prelude.{Bool, true, false, not, ◌&&◌, ◌||◌, ◌==◌, ◌≡◌, Option, Some, None, IsTrue, is_none, nat_lt, unwrap_or, ℕ, ℤ, pos, negsuc, []}
+-- Which operands a request for one instruction may give; those that it does not give are drawn.
+use Rattle.std.specs.Prelude.{Bool, true, false, not, ◌&&◌, ◌||◌, ◌==◌, ◌≡◌, Option, Some, None, IsTrue, is_none, nat_lt, unwrap_or, ℤ, pos, negsuc, []}
 use Rattle.rv_fields.specs.declared.class.Class.{Class}
 use Rattle.rv_fields.specs.declared.class.Class.TheVariants.{Computes, Branches, Jumps, JumpsByRegister, Accesses, ChangesCsr, Fences, FencesTranslation, CallsEnvironment, Breaks, ReturnsFromM, ReturnsFromS}
 use Rattle.rv_fields.specs.declared.class.CsrChange.TheVariants.{Swap, Set, Clear}
@@ -14,32 +14,32 @@ use Rattle.rv_fields.specs.Csr.{csr_number}
 use Rattle.rv_fields.specs.Decode.{has_imm, has_rd, has_rs1, has_rs2}
 use Rattle.rv_fields.specs.RowTable.{form_of}
 use Rattle.rv_encode.specs.Fitting.{misfit}
+use Rattle.region_plan.specs.Plan.{is_it}
 use Rattle.region_plan.specs.Request.{Pins}
 
--- the operands that are given, and whether rs1 is the fixed 0 of a read; nothing else
-abbrev pub bare_pins : Option ℕ → Option ℕ → Option ℕ → Option ℤ → Bool → Pins
-bare_pins rd rs1 rs2 imm zero_rs1 = record { rd = rd; rs1 = rs1; rs2 = rs2; imm = imm; aqrl = 0; avoid = []; zero_rs1 = zero_rs1 }
+-- no operand is given, and no register is to avoid
+abbrev pub no_pins : Pins
+no_pins = record { rd = None; rs1 = None; rs2 = None; imm = None; aqrl = 0; avoid = []; zero_rs1 = false }
 
 -- the operands of the word; those that aren't given are 0
 abbrev pub pinned_ops : Pins → Ops
 pinned_ops pins = record { rd = unwrap_or pins.rd 0; rs1 = unwrap_or pins.rs1 0; rs2 = unwrap_or pins.rs2 0; imm = unwrap_or pins.imm (pos 0); aqrl = 0 }
 
--- those of a word that names a CSR, whose number stands in the immediate's place
-abbrev pub csr_ops : Csr → Pins → Ops
-csr_ops csr pins = record (pinned_ops pins) { imm = pos (csr_number csr) }
+-- those of an instruction on a CSR, whose number stands in the immediate's place
+abbrev pub csr_pins : Csr → Pins → Pins
+csr_pins csr pins = record pins { imm = Some (pos (csr_number csr)) }
 
--- an operand is given exactly where the form has it
-abbrev pub is_pinned_where : {A : Type 0} → Bool → Option A → Bool
-is_pinned_where true (Some operand) = true
-is_pinned_where true None = false
-is_pinned_where false (Some operand) = false
-is_pinned_where false None = true
+-- an operand may be given where the form has it
+abbrev pub may_give : {A : Type 0} → Bool → Option A → Bool
+may_give true pin = true
+may_give false (Some operand) = false
+may_give false None = true
 
-abbrev pub are_pinned : Form → Pins → Bool
-are_pinned form pins = is_pinned_where (has_rd form) pins.rd
-    && is_pinned_where (has_rs1 form && not pins.zero_rs1) pins.rs1
-    && is_pinned_where (has_rs2 form) pins.rs2
-    && is_pinned_where (has_imm form) pins.imm
+abbrev pub may_give_all : Form → Pins → Bool
+may_give_all form pins = may_give (has_rd form) pins.rd
+    && may_give (has_rs1 form && not pins.zero_rs1) pins.rs1
+    && may_give (has_rs2 form) pins.rs2
+    && may_give (has_imm form) pins.imm
 
 -- the word of the instruction can hold the operands
 abbrev pub fits_word : Ins → Ops → Bool
@@ -47,38 +47,38 @@ fits_word ins ops = is_none (misfit (form_of ins) ops)
 
 -- ---- instructions
 
--- what a fence orders: 8 bits
+-- what a fence orders, where it is given: 8 bits
 abbrev pub is_fence_set : Option ℤ → Bool
-is_fence_set None = false
+is_fence_set None = true
 is_fence_set (Some (pos n)) = nat_lt n 256
 is_fence_set (Some (negsuc n)) = false
 
 -- A fence names no register but x0.
-abbrev pub is_fence_pinned : Pins → Bool
-is_fence_pinned pins = (unwrap_or pins.rd 0 == 0) && (unwrap_or pins.rs1 0 == 0) && is_none pins.rs2 && is_fence_set pins.imm
+abbrev pub suit_fence : Pins → Bool
+suit_fence pins = (unwrap_or pins.rd 0 == 0) && (unwrap_or pins.rs1 0 == 0) && is_none pins.rs2 && is_fence_set pins.imm
 
 -- by the class of the instruction
-abbrev pub is_pinned_as : Class → Ins → Pins → Bool
-is_pinned_as Computes ins pins = are_pinned (form_of ins) pins && fits_word ins (pinned_ops pins)
-is_pinned_as Branches ins pins = false
-is_pinned_as Jumps ins pins = false
-is_pinned_as JumpsByRegister ins pins = false
-is_pinned_as (Accesses kind size extended) ins pins = false
-is_pinned_as (ChangesCsr change) ins pins = false
-is_pinned_as Fences ins pins = is_fence_pinned pins
-is_pinned_as FencesTranslation ins pins = false
-is_pinned_as CallsEnvironment ins pins = false
-is_pinned_as Breaks ins pins = false
-is_pinned_as ReturnsFromM ins pins = false
-is_pinned_as ReturnsFromS ins pins = false
+abbrev pub suit_as : Class → Ins → Pins → Bool
+suit_as Computes ins pins = may_give_all (form_of ins) pins && fits_word ins (pinned_ops pins)
+suit_as Branches ins pins = false
+suit_as Jumps ins pins = false
+suit_as JumpsByRegister ins pins = false
+suit_as (Accesses kind size extended) ins pins = false
+suit_as (ChangesCsr change) ins pins = false
+suit_as Fences ins pins = suit_fence pins
+suit_as FencesTranslation ins pins = false
+suit_as CallsEnvironment ins pins = false
+suit_as Breaks ins pins = false
+suit_as ReturnsFromM ins pins = false
+suit_as ReturnsFromS ins pins = false
 
--- An instruction that computes a value, or a fence, with all the operands of its form, and no others.
-abbrev pub is_fully_pinned : Ins → Pins → Bool
-is_fully_pinned ins pins = is_pinned_as (class_of ins) ins pins
+-- An instruction that computes a value, or a fence, of whose operands some are given, and no others.
+abbrev pub suit : Ins → Pins → Bool
+suit ins pins = suit_as (class_of ins) ins pins
 
-pub record IsFullyPinned (ins : Ins) (pins : Pins) : Type 0 where
-  pub whole : IsTrue (is_fully_pinned ins pins)
-  pub alone : pins ≡ bare_pins pins.rd pins.rs1 pins.rs2 pins.imm pins.zero_rs1
+pub record Suit (ins : Ins) (pins : Pins) : Type 0 where
+  pub whole : IsTrue (suit ins pins)
+  pub no_order : pins.aqrl ≡ 0
 
 -- ---- instructions on CSRs
 
@@ -126,22 +126,26 @@ is_scratch Pmpcfg0 = false
 is_scratch Pmpaddr0 = false
 is_scratch Mhartid = false
 
+-- rs1 is sure to be x0
+abbrev pub gives_x0 : Pins → Bool
+gives_x0 pins = pins.zero_rs1 || is_it 0 pins.rs1
+
 -- Bits are set or cleared by the register's, and none are by x0.
-abbrev pub may_change : Class → Csr → ℕ → Bool
-may_change (ChangesCsr Swap) csr rs1 = is_scratch csr
-may_change (ChangesCsr Set) csr rs1 = is_scratch csr || (rs1 == 0)
-may_change (ChangesCsr Clear) csr rs1 = is_scratch csr || (rs1 == 0)
-may_change Computes csr rs1 = false
-may_change Branches csr rs1 = false
-may_change Jumps csr rs1 = false
-may_change JumpsByRegister csr rs1 = false
-may_change (Accesses kind size extended) csr rs1 = false
-may_change Fences csr rs1 = false
-may_change FencesTranslation csr rs1 = false
-may_change CallsEnvironment csr rs1 = false
-may_change Breaks csr rs1 = false
-may_change ReturnsFromM csr rs1 = false
-may_change ReturnsFromS csr rs1 = false
+abbrev pub may_change : Class → Csr → Pins → Bool
+may_change (ChangesCsr Swap) csr pins = is_scratch csr
+may_change (ChangesCsr Set) csr pins = is_scratch csr || gives_x0 pins
+may_change (ChangesCsr Clear) csr pins = is_scratch csr || gives_x0 pins
+may_change Computes csr pins = false
+may_change Branches csr pins = false
+may_change Jumps csr pins = false
+may_change JumpsByRegister csr pins = false
+may_change (Accesses kind size extended) csr pins = false
+may_change Fences csr pins = false
+may_change FencesTranslation csr pins = false
+may_change CallsEnvironment csr pins = false
+may_change Breaks csr pins = false
+may_change ReturnsFromM csr pins = false
+may_change ReturnsFromS csr pins = false
 
 -- the form of the instructions that change a CSR by a register
 abbrev pub is_by_register : Form → Bool
@@ -160,11 +164,11 @@ is_by_register K = false
 is_by_register V = false
 is_by_register N = false
 
--- An instruction that reads a CSR, or changes one that a template may write, with all its operands and no others.
-abbrev pub is_csr_pinned : Csr → Ins → Pins → Bool
-is_csr_pinned csr ins pins = may_name csr && may_change (class_of ins) csr (unwrap_or pins.rs1 0)
-    && is_by_register (form_of ins) && are_pinned (form_of ins) pins && fits_word ins (csr_ops csr pins)
+-- An instruction that reads a CSR, or changes one that a template may write, of whose operands some are given, and no others.
+abbrev pub suit_csr : Csr → Ins → Pins → Bool
+suit_csr csr ins pins = may_name csr && may_change (class_of ins) csr pins
+    && is_by_register (form_of ins) && may_give_all (form_of ins) pins && fits_word ins (pinned_ops (csr_pins csr pins))
 
-pub record IsCsrPinned (csr : Csr) (ins : Ins) (pins : Pins) : Type 0 where
-  pub whole : IsTrue (is_csr_pinned csr ins pins)
-  pub alone : pins ≡ bare_pins pins.rd pins.rs1 pins.rs2 pins.imm pins.zero_rs1
+pub record SuitCsr (csr : Csr) (ins : Ins) (pins : Pins) : Type 0 where
+  pub whole : IsTrue (suit_csr csr ins pins)
+  pub no_order : pins.aqrl ≡ 0

@@ -2,15 +2,15 @@
 use Rattle.std.specs.Prelude.{ℕ, ◌≡◌, ◌≤◌, length}
 use Rattle.std.specs.List.{AllByRecursion}
 use Rattle.rv_fields.specs.Play.{most_harts}
-use Rattle.region_plan.specs.Pinned.{IsCsrPinned, IsFullyPinned}
+use Rattle.region_plan.specs.Pinned.{Suit, SuitCsr}
 use Rattle.region_plan.specs.Plan.{HartPlan, Work, hart_count, no_hart}
 use Rattle.region_plan.specs.Request.{InsChoice, Pins, Plain, Request, SysWord, a_csr, a_jump, a_loop, a_mem, a_pick, a_plain, a_set, a_sys, a_value, an_ins, by_tree, named_ins, no_arms, sys_ebreak, sys_ecall, sys_mret, sys_sfence, sys_sret, sys_zero}
 use Rattle.region_plan.specs.Script.{ScriptItem, script_of}
 use Rattle.region_plan.specs.Views.{work_with}
 
--- An instruction that can be made: it is named, and all its operands are given.
+-- An instruction that can be made: it is named, and has the operands that are given.
 abbrev pub IsMakeableIns : InsChoice → Pins → Type 0
-IsMakeableIns (named_ins ins) pins = IsFullyPinned ins pins
+IsMakeableIns (named_ins ins) pins = Suit ins pins
 IsMakeableIns (by_tree tree) pins = ⊥
 
 -- A word that a hart in mode M may be asked for: it returns from no trap.
@@ -26,7 +26,7 @@ abbrev pub IsMakeablePlain : Plain → Type 0
 IsMakeablePlain (an_ins ins pins) = IsMakeableIns ins pins
 IsMakeablePlain (a_mem r) = ⊥
 IsMakeablePlain (a_jump r) = ⊥
-IsMakeablePlain (a_csr csr ins pins) = IsCsrPinned csr ins pins
+IsMakeablePlain (a_csr csr ins pins) = SuitCsr csr ins pins
 IsMakeablePlain (a_sys sys) = IsMakeableSys sys
 IsMakeablePlain (a_value value pins) = ⊥
 

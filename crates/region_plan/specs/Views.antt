@@ -13,13 +13,14 @@ use Rattle.region_plan.specs.declared.request.Request.TheVariants.{Ins, Csr, Sys
 use Rattle.region_plan.specs.declared.request.Sys as word
 use Rattle.region_plan.specs.declared.request.Sys.TheVariants.{Ecall, Ebreak, Zero, Sfence}
 use Rattle.region_plan.specs.Plan.{HartPlan, Work, hart_count, no_hart, plan_of}
+use Rattle.region_plan.specs.Registers.{registers_in}
 use Rattle.region_plan.specs.Request.{InsChoice, Items, Pins, Request, SysWord, a_csr, a_plain, a_sys, an_ins, named_ins, no_items, one, sys_ebreak, sys_ecall, sys_sfence, sys_zero}
 
 abbrev pub choice_seen : choice.InsChoice → InsChoice
 choice_seen (Named ins) = named_ins ins
 
 abbrev pub pins_seen : pinned.Pins → Pins
-pins_seen p = record { rd = p.rd; rs1 = p.rs1; rs2 = p.rs2; imm = p.imm; aqrl = 0; avoid = []; zero_rs1 = p.zero_rs1 }
+pins_seen p = record { rd = p.rd; rs1 = p.rs1; rs2 = p.rs2; imm = p.imm; aqrl = 0; avoid = registers_in p.avoid.has; zero_rs1 = p.zero_rs1 }
 
 abbrev pub sys_seen : word.Sys → SysWord
 sys_seen Ecall = sys_ecall

@@ -1,7 +1,8 @@
 ghost use Rattle.std.specs.Prelude.{◌≡◌};
-ghost use Rattle.region_plan.specs.Pinned.{are_pinned, csr_ops, fits_word, is_csr_pinned, is_fence_pinned, is_fence_set, is_scratch, may_change, may_name, pinned_ops, is_pinned_where, is_fully_pinned};
+ghost use Rattle.region_plan.specs.Pinned.{csr_pins, fits_word, gives_x0, is_fence_set, is_scratch, may_change, may_give, may_give_all, may_name, no_pins, pinned_ops, suit, suit_csr, suit_fence};
 ghost use Rattle.region_plan.specs.Views.{pins_seen};
 
+use crate::register_set::RegisterSet;
 use rv_encode::encode;
 use rv_fields::{Class, Csr, CsrChange, Form, Ins, Ops, csr_number};
 use rv_table::{class_of, row};
@@ -12,18 +13,34 @@ pub enum InsChoice {
     Named(Ins),
 }
 
-/// The operands that a request gives.
+/// The operands that a request gives; the others are drawn.
 #[derive(Clone, Copy, Debug, PartialEq, Eq)]
 pub struct Pins {
     pub rd: Option<u8>,
     pub rs1: Option<u8>,
     pub rs2: Option<u8>,
     pub imm: Option<i64>,
+    /// The registers that no operand may be.
+    pub avoid: RegisterSet,
     /// rs1 is the fixed x0 of a read, and no operand.
     pub zero_rs1: bool,
 }
 
 impl Pins {
+    /// Those that give nothing and avoid nothing.
+    pub fn none() -> Pins
+        ensures { pins_seen result ≡ no_pins }
+    {
+        Pins {
+            rd: None,
+            rs1: None,
+            rs2: None,
+            imm: None,
+            avoid: RegisterSet::empty(),
+            zero_rs1: false,
+        }
+    }
+
     /// The operands; those that aren't given are 0.
     pub fn ops(&self) -> Ops
         ensures { result ≡ pinned_ops (pins_seen self.now) }
@@ -37,69 +54,88 @@ impl Pins {
         }
     }
 
-    /// The operands of an instruction on the CSR, whose number stands in the immediate's place.
-    pub fn csr_ops(&self, csr: Csr) -> Ops
-        ensures { result ≡ csr_ops csr (pins_seen self.now) }
+    /// Those of an instruction on the CSR, whose number stands in the immediate's place.
+    pub fn of_csr(&self, csr: Csr) -> Pins
+        ensures { pins_seen result ≡ csr_pins csr (pins_seen self.now) }
     {
-        Ops {
-            imm: i64::from(csr_number(csr)),
-            ..self.ops()
+        Pins {
+            imm: Some(i64::from(csr_number(csr))),
+            ..*self
         }
     }
 
-    /// Whether these are all the operands of an instruction that computes a value, or of a fence, and its word can hold
-    /// them.
-    pub fn are_all_pinned(&self, ins: Ins) -> bool
-        ensures { result ≡ is_fully_pinned ins (pins_seen self.now) }
+    /// Whether a template may give these to the instruction: it computes a value or is a fence, and its word can hold
+    /// what is given.
+    pub fn suit(&self, ins: Ins) -> bool
+        ensures { result ≡ suit ins (pins_seen self.now) }
     {
         match class_of(ins) {
             Class::Computes => {
-                self.are_pinned(row(ins).form) && encode(ins, &self.ops()).is_ok()
+                self.are_of_form(row(ins).form) && encode(ins, &self.ops()).is_ok()
             }
-            Class::Fences => self.are_of_fence(),
+            Class::Fences => self.suit_fence(),
             _ => false,
         }
     }
 
-    /// Whether these are all the operands of an instruction on the CSR, and a template may ask for it.
-    pub fn are_of_csr(&self, csr: Csr, ins: Ins) -> bool
-        ensures { result ≡ is_csr_pinned csr ins (pins_seen self.now) }
+    /// Whether a template may give these to the instruction on the CSR.
+    pub fn suit_csr(&self, csr: Csr, ins: Ins) -> bool
+        ensures { result ≡ suit_csr csr ins (pins_seen self.now) }
     {
         may_name(csr)
-            && may_change(class_of(ins), csr, self.rs1.unwrap_or(0))
+            && self.may_change(class_of(ins), csr)
             && row(ins).form == Form::C
-            && self.are_pinned(row(ins).form)
-            && encode(ins, &self.csr_ops(csr)).is_ok()
+            && self.are_of_form(row(ins).form)
+            && encode(ins, &self.of_csr(csr).ops()).is_ok()
     }
 
-    /// Whether exactly the operands that the form has are given.
-    fn are_pinned(&self, form: Form) -> bool
-        ensures { result ≡ are_pinned form (pins_seen self.now) }
+    /// Whether no operand is given that the form lacks.
+    fn are_of_form(&self, form: Form) -> bool
+        ensures { result ≡ may_give_all form (pins_seen self.now) }
     {
-        self.rd.is_some() == form.has_rd()
-            && self.rs1.is_some() == (form.has_rs1() && !self.zero_rs1)
-            && self.rs2.is_some() == form.has_rs2()
-            && self.imm.is_some() == form.has_imm()
+        (form.has_rd() || self.rd.is_none())
+            && (form.has_rs1() && !self.zero_rs1 || self.rs1.is_none())
+            && (form.has_rs2() || self.rs2.is_none())
+            && (form.has_imm() || self.imm.is_none())
     }
 
     /// Whether these are what a fence orders, and no register but x0.
-    fn are_of_fence(&self) -> bool
-        ensures { result ≡ is_fence_pinned (pins_seen self.now) }
+    fn suit_fence(&self) -> bool
+        ensures { result ≡ suit_fence (pins_seen self.now) }
     {
         self.rd.unwrap_or(0) == 0
             && self.rs1.unwrap_or(0) == 0
             && self.rs2.is_none()
             && is_fence_set(self.imm)
     }
+
+    /// Whether a template may ask for instructions of the class on the CSR.
+    fn may_change(&self, class: Class, csr: Csr) -> bool
+        ensures { result ≡ may_change class csr (pins_seen self.now) }
+    {
+        match class {
+            Class::ChangesCsr(CsrChange::Swap) => is_scratch(csr),
+            Class::ChangesCsr(_) => is_scratch(csr) || self.give_x0(),
+            _ => false,
+        }
+    }
+
+    /// Whether rs1 is sure to be x0.
+    fn give_x0(&self) -> bool
+        ensures { result ≡ gives_x0 (pins_seen self.now) }
+    {
+        self.zero_rs1 || self.rs1 == Some(0)
+    }
 }
 
-/// Whether this is a set of accesses that a fence orders: 4 bits of what comes before, and 4 of what comes behind.
+/// Whether this is a set of accesses that a fence orders, where it is given: 4 bits of what comes before, and 4 of what comes
+/// behind.
 fn is_fence_set(imm: Option<i64>) -> bool
     ensures { result ≡ is_fence_set imm }
 {
     match imm {
         Some(set) => 0 <= set && set < 256,
-        None => false,
+        None => true,
     }
 }
 
@@ -119,17 +155,6 @@ fn is_scratch(csr: Csr) -> bool
     ensures { result ≡ is_scratch csr }
 {
     matches!(csr, Csr::Sscratch | Csr::Mscratch)
-}
-
-/// Whether a template may ask for instructions of the class on the CSR, with this register as rs1.
-fn may_change(class: Class, csr: Csr, rs1: u8) -> bool
-    ensures { result ≡ may_change class csr rs1 }
-{
-    match class {
-        Class::ChangesCsr(CsrChange::Swap) => is_scratch(csr),
-        Class::ChangesCsr(_) => is_scratch(csr) || rs1 == 0,
-        _ => false,
-    }
 }
 
 /// A word of its own that a request asks for.

@@ -17,9 +17,8 @@ fn item() -> Item {
         pins: Pins {
             rd: Some(1),
             rs1: Some(0),
-            rs2: None,
             imm: Some(-5),
-            zero_rs1: false,
+            ..Pins::none()
         },
     })
 }
@@ -34,5 +33,21 @@ fn keeps_templates_in_order(rt: HostRuntime) -> Result<(), Fail> {
     assert_eq!(rt; job.template(0), [item()].as_slice());
     assert!(rt; job.template(1).is_empty());
     assert_eq!(rt; *job.plan().hart(1), hart(2));
+    Ok(())
+}
+
+#[test]
+fn a_set_has_the_registers_that_were_put_in(rt: HostRuntime) -> Result<(), Fail> {
+    let set = RegisterSet::empty().with(31).with(0).with(7).with(31);
+    for (register, is_in) in [
+        (0, true),
+        (1, false),
+        (7, true),
+        (8, false),
+        (30, false),
+        (31, true),
+    ] {
+        assert_eq!(rt; set.contains(register), is_in, "x{register}");
+    }
     Ok(())
 }
