@@ -1,14 +1,14 @@
 -- What a request's operands may be, and which of them the next words of a stream choose.
 use Rattle.region_plan.specs.Plan.{is_it}
-use Rattle.std.specs.List.{list_all, list_any, range_with_len}
-use Rattle.std.specs.Prelude.{Bool, List, None, Option, Some, false, filter, get_or, length, not, pos, true, ℕ, ℤ, ◌+◌, ◌-◌, ◌%◌, ◌^◌, ◌==◌, ◌&&◌, ◌∷◌, ◌-ℤ◌, ◌*ℤ◌, [], if◌then◌else◌}
+use Rattle.region_plan.specs.Registers.{is_among, registers}
+use Rattle.std.specs.List.{list_all, range_with_len}
+use Rattle.std.specs.Prelude.{Bool, IfSome, IsTrue, List, None, Option, Some, false, filter, get_or, length, not, pos, true, ℕ, ℤ, ◌-◌, ◌%◌, ◌^◌, ◌==◌, ◌≡◌, ◌&&◌, ◌∷◌, ◌-ℤ◌, ◌*ℤ◌, [], if◌then◌else◌}
 use Rattle.rv_fields.specs.declared.row_table.Form.TheVariants.{U, I, H6, H5}
-use Rattle.choice_tree.specs.Draws.{Draws, word_of, next_word, skipped}
+use Rattle.choice_tree.specs.Draws.{Draws, next_word, skipped}
 use Rattle.region_plan.specs.Request.{Pins}
-use Rattle.rv_encode.specs.Packing.{packed}
 use Rattle.rv_fields.specs.Decode.{has_rd, has_rs1, has_rs2}
 use Rattle.rv_fields.specs.Immediate.{signed_of}
-use Rattle.rv_fields.specs.RowTable.{form_of, value_of}
+use Rattle.rv_fields.specs.RowTable.{form_of}
 use Rattle.rv_fields.specs.declared.row_table.Form.{Form}
 use Rattle.rv_fields.specs.declared.row_table.Ins.{Ins}
 use Rattle.rv_fields.specs.declared.row_table.Ins.TheVariants.{Fence}
@@ -31,13 +31,9 @@ no_operand = record { members = 0 ∷ []; drawn = false }
 abbrev pub if_has : Bool → Operand → Operand
 if_has has o = if has then o else no_operand
 
--- a number is among these
-abbrev pub is_among : List ℕ → ℕ → Bool
-is_among numbers n = list_any (λ m. m == n) numbers
-
 -- the registers from the least on, but those to avoid and the counter of the loop in which the request stands
 abbrev pub allowed : Pins → Option ℕ → ℕ → List ℕ
-allowed pins counter least = filter (λ r. not (is_among pins.avoid r) && not (is_it r counter)) (range_with_len least (32 - least))
+allowed pins counter least = filter (λ r. not (is_among pins.avoid r) && not (is_it r counter)) (range_with_len least (registers - least))
 
 -- whether some choice of registers serves all of them
 abbrev pub serve : List Operand → Bool
@@ -52,6 +48,10 @@ value_of_operand draws o = if o.drawn then chosen o.members (next_word draws) el
 
 abbrev pub behind_operand : Draws → Operand → Draws
 behind_operand draws o = if o.drawn then skipped draws 1 else draws
+
+-- the register may stand at this place among the operands
+abbrev pub may_be : List Operand → ℕ → ℕ → Bool
+may_be operands place register = is_among (get_or operands place no_operand).members register
 
 -- ---- instructions whose operands are drawn without regard to anything else: of `ins`, `csr` and branches
 
@@ -72,6 +72,13 @@ imm_in U word = Some (signed_of (2 ^ 19) (word % 2 ^ 20) *ℤ pos 4096)
 imm_in H6 word = Some (pos (word % 64))
 imm_in H5 word = Some (pos (word % 32))
 imm_in form word = None
+
+-- Operands that serve: each register is one of those that it may be, and a pinned immediate stands as it is.
+pub record Serves (ins : Ins) (pins : Pins) (counter : Option ℕ) (ops : Ops) : Type 0 where
+  pub rd : IsTrue (may_be (registers_of ins pins counter) 0 ops.rd)
+  pub rs1 : IsTrue (may_be (registers_of ins pins counter) 1 ops.rs1)
+  pub rs2 : IsTrue (may_be (registers_of ins pins counter) 2 ops.rs2)
+  pub imm : IfSome pins.imm (λ imm. ops.imm ≡ imm)
 
 -- a word read as an immediate of the instruction; none where its form has none to draw
 abbrev pub imm_by : Ins → ℕ → Option ℤ

@@ -44,7 +44,7 @@ pub all_fit : (form : Form) (ops : Ops) → misfit form ops ≡ None → (f : Fi
 all_fit form ops e f =
     not-false _ (not_found (λ f. not (fits form ops f)) all_fields (listed f).0 f (unmapped _ _ e) (listed f).1)
 
-no_misfit : (form : Form) (ops : Ops) → ((f : Field) → fits form ops f ≡ true) → misfit form ops ≡ None
+pub no_misfit : (form : Form) (ops : Ops) → ((f : Field) → fits form ops f ≡ true) → misfit form ops ≡ None
 no_misfit form ops fit = rw (fit Rd, fit Rs1, fit Rs2, fit Imm, fit AqRl) refl
 
 -- ---- words
