@@ -1,7 +1,21 @@
--- What the begin of a request computes to, where all of its operands are pinned.
-use Rattle.std.proofs.Common.{ℕ, zero, suc, ◌+◌, ◌-◌, ◌^◌, ◌<◌, ◌≤◌, ◌≡◌, ℤ, pos, negsuc, Bool, true, false, not, cond, eqb, ltb, ◌&&◌, ◌||◌, get_or, List, [], ◌∷◌, length, filter, Option, Some, None, refl, sym, ap, subst, ◌∙◌, arith, lit<}
-use Rattle.std.specs.Prelude.{IfSome, is_none, option_map, unwrap_or}
-use Rattle.std.specs.List.{AllByRecursion, range_with_len}
+-- How a request begins, its word drawn or refused, and what is known of that word.
+use Rattle.std.proofs.Common.{ℕ, zero, suc, ◌+◌, ◌-◌, ◌^◌, ◌<◌, ◌≤◌, ◌≡◌, ℤ, pos, negsuc, Bool, true, false, not, cond, eqb, eq-eqb, ltb, ◌&&◌, ◌||◌, ◌==◌, get_or, List, [], ◌∷◌, length, filter, Option, Some, None, refl, sym, ap, subst, ◌∙◌, arith, lit<}
+use Rattle.std.specs.Prelude.{is_none, option_map, unwrap_or}
+use Rattle.operand_solver.specs.Operands.{Serves, allowed, if_has, may_be, operand, operands_drawn, registers_of, serve}
+use Rattle.region_plan.specs.Registers.{is_among}
+use Rattle.region_plan.specs.Pinned.{csr_pins, fits_word, gives_x0, is_by_register, is_fence_set, is_scratch, may_change, may_name, pinned_ops, suit_as, suit_csr}
+use Rattle.trace_text.specs.Lines.{refused, request as begins_line}
+use Rattle.hart_task.specs.Acts.{Act, Begun, begins, event_of, refuses, request_kind}
+use Rattle.hart_task.specs.Asking.{AskedWord, IsWordFor, asked_word, demand_asked, is_served, itself, of_ins, worded}
+use Rattle.hart_task.specs.Beginning.{Prepared, cause_of, holds_cause, makes, prepared, sys_word}
+use Rattle.hart_task.specs.Blocks.{Meets, AreHandled, IsStepOf}
+use Rattle.hart_task.specs.State.{HartState, Loop, Phase, between, counter_of, index_of, is_done, making}
+use Rattle.hart_task.specs.Task.{begun_lines, task_event}
+use Rattle.hart_task.specs.Turn.{Next, begin_prepared, begin_turn, meets, next_of, next_turn, turned, turned_in}
+use Rattle.trace_fields.specs.declared.request.Cause.{Cause}
+use Rattle.trace_fields.specs.declared.request.Cause.TheVariants.{NoRegister}
+use Rattle.operand_solver.proofs.Drawn.{drawn_fits, drawn_on, drawn_serves, registers_by_form}
+use Rattle.std.specs.List.{AllByRecursion}
 use Rattle.std.proofs.lemmas.Bool.{and_parts, eqb-true, ltb-true}
 use Rattle.std.proofs.lemmas.Bool.Decides.{nat_tests}
 use Rattle.rv_fields.specs.declared.class.Class.{Class}
@@ -12,14 +26,14 @@ use Rattle.rv_fields.specs.declared.csr.Csr.{Csr}
 use Rattle.rv_fields.specs.declared.csr.Csr.TheVariants.{Sscratch, Mscratch, Mcause, Mtval}
 use Rattle.rv_fields.specs.declared.mode.Mode.TheVariants.{M}
 use Rattle.rv_fields.specs.declared.row_table.Form.{Form}
-use Rattle.rv_fields.specs.declared.row_table.Form.TheVariants.{U, I, H6, H5, C}
+use Rattle.rv_fields.specs.declared.row_table.Form.TheVariants.{I, C}
 use Rattle.rv_fields.specs.declared.row_table.Ins.{Ins}
 use Rattle.rv_fields.specs.declared.row_table.Ins.TheVariants.{Fence, Ecall, Ebreak, Mret, Sret, SfenceVma}
 use Rattle.rv_fields.specs.declared.row_table.Ops.{Ops}
 use Rattle.rv_fields.specs.Class.{access_in, class_of}
 use Rattle.rv_fields.specs.Csr.{csr_number}
 use Rattle.rv_fields.specs.CsrFile.{CsrFile, may_write, written}
-use Rattle.rv_fields.specs.Decode.{Decoded, decoded, has_imm, has_rd, has_rs1, has_rs2, ins_at}
+use Rattle.rv_fields.specs.Decode.{Decoded, decoded, has_rs1, ins_at}
 use Rattle.rv_fields.specs.Attempt.{◌>>=◌}
 use Rattle.rv_fields.specs.Effect.{Effect}
 use Rattle.rv_fields.specs.Hart.{Hart}
@@ -28,121 +42,44 @@ use Rattle.rv_fields.specs.RowTable.{form_of, value_of}
 use Rattle.rv_fields.specs.Step.{writes}
 use Rattle.rv_fields.specs.Name.{Name}
 use Rattle.rv_encode.specs.Packing.{word_by}
-use Rattle.rv_encode.specs.declared.field.Field.TheVariants.{Rd, Rs1, Rs2}
-use Rattle.rv_encode.specs.Fitting.{fits_field, misfit}
+use Rattle.rv_encode.specs.Fitting.{misfit}
 use Rattle.rv_encode.proofs.Encoded.{all_fit, encoded_decodes}
 use Rattle.rv_encode.proofs.Packing.{packed_lt}
 use Rattle.rv_fields.proofs.OneRow.{value_masked}
-use Rattle.choice_tree.specs.Draws.{Draws, next_word}
-use Rattle.operand_solver.specs.Operands.{Drawn, Operand, allowed, if_has, imm_by, imm_in, operand, registers_drawn, registers_of, serve, with_drawn_imm, with_imm}
-use Rattle.region_plan.specs.declared.request.InsChoice.TheVariants.{Named}
-use Rattle.region_plan.specs.declared.request.Request as code
-use Rattle.region_plan.specs.declared.request.Request.TheVariants as requests
-use Rattle.region_plan.specs.Plan.{HartPlan, Work, hart_count, no_hart, plan_of}
-use Rattle.region_plan.specs.Request.{Demand, InsChoice, Pins, Plain, Quiet, Request, a_csr, a_jump, a_loop, a_mem, a_pick, a_plain, a_set, a_sys, a_value, an_ins, by_tree, named_ins, SysWord, sys_ebreak, sys_ecall, sys_mret, sys_sfence, sys_sret, sys_zero}
-use Rattle.region_plan.specs.Pinned.{bare_pins, csr_ops, pinned_ops, is_by_register, is_csr_pinned, is_pinned_as, is_pinned_where, is_fully_pinned, is_scratch, may_change, may_name}
+use Rattle.choice_tree.specs.Draws.{Draws}
+use Rattle.region_plan.specs.Plan.{HartPlan, Work, hart_count, is_it, no_hart, plan_of}
+use Rattle.region_plan.specs.Request.{Pins, Quiet, Request, a_csr, a_jump, a_loop, a_mem, a_pick, a_plain, a_set, a_sys, a_value, an_ins, by_tree, named_ins, SysWord, sys_ebreak, sys_ecall, sys_mret, sys_sfence, sys_sret, sys_zero}
 use Rattle.region_plan.specs.Rules.{IsMakeable, IsMakeableRequest, IsPlainHart, KeepsRules, IsMakeableSys}
 use Rattle.region_plan.specs.Script.{ScriptItem}
-use Rattle.region_plan.specs.Views.{request_seen}
 use Rattle.boot_words.specs.Layout.{code_start, window_at, window_by, window_words}
 use Rattle.boot_words.proofs.Running.{named}
-use Rattle.trace_fields.specs.declared.request.Cause.TheVariants.{NoRegister}
-use Rattle.hart_task.specs.Acts.{begins}
-use Rattle.hart_task.specs.Asking.{demand_asked, word_asked}
-use Rattle.hart_task.specs.Beginning.{Prepared, cause_of, holds_cause, makes, prepared, sys_word}
-use Rattle.hart_task.specs.Blocks.{Meets, IsPinned, csr_pins, AreHandled, IsStepOf}
 use Rattle.hart_task.specs.Heard.{Heard}
-use Rattle.hart_task.specs.State.{HartState, Loop, between, counter_of, index_of, is_done, making}
-use Rattle.hart_task.specs.Turn.{Next, Turned, begin_prepared, begin_turn, meets, next_of, next_turn, turned, turned_in}
 use Rattle.hart_task.proofs.Bare.{GoesOn, KeepsWay, bare_step, changes_on, computes_on, fences_on, Proceeds, bare_quiet, calls_trapped, goes_on, breaks_trapped, translation_fenced, unknown_trapped}
 use Rattle.hart_task.proofs.Makes.{IsQuietWord}
 
--- ---- the word of a request
-
-abbrev pub ins_word : InsChoice → Pins → ℕ
-ins_word (named_ins ins) pins = word_by ins (pinned_ops pins)
-ins_word (by_tree tree) pins = 0
-
-abbrev pub plain_word : Plain → ℕ
-plain_word (an_ins ins pins) = ins_word ins pins
-plain_word (a_mem r) = 0
-plain_word (a_jump r) = 0
-plain_word (a_csr csr ins pins) = word_by ins (csr_ops csr pins)
-plain_word (a_sys sys) = sys_word sys
-plain_word (a_value value pins) = 0
-
--- the word of a request all of whose operands are pinned; 0 where there is none
-abbrev pub pinned_word : Request → ℕ
-pinned_word (a_plain p) = plain_word p
-pinned_word (a_loop times counter body) = 0
-pinned_word (a_set tree path weight) = 0
-pinned_word (a_pick tree) = 0
-
-abbrev pub plain_demand : Plain → Option Demand
-plain_demand (an_ins ins pins) = Some Quiet
-plain_demand (a_mem r) = None
-plain_demand (a_jump r) = None
-plain_demand (a_csr csr ins pins) = None
-plain_demand (a_sys sys) = None
-plain_demand (a_value value pins) = None
-
--- what the step of that word has to be
-abbrev pub pinned_demand : Request → Option Demand
-pinned_demand (a_plain p) = plain_demand p
-pinned_demand (a_loop times counter body) = None
-pinned_demand (a_set tree path weight) = None
-pinned_demand (a_pick tree) = None
-
-pub word_seen_is : (r : code.Request) → pinned_word (request_seen r) ≡ word_asked r
-word_seen_is (requests.Ins (Named ins) pins) = refl
-word_seen_is (requests.Csr csr ins pins) = refl
-word_seen_is (requests.Sys sys) = refl
-
-pub demand_seen_is : (r : code.Request) → pinned_demand (request_seen r) ≡ demand_asked r
-demand_seen_is (requests.Ins ins pins) = refl
-demand_seen_is (requests.Csr csr ins pins) = refl
-demand_seen_is (requests.Sys sys) = refl
-
 -- ---- the requests that can be made
 
--- the registers are given where the form has them
-pub record RegisterParts (form : Form) (rd rs1 rs2 : Option ℕ) (zero_rs1 : Bool) : Type 0 where
-  pub rd_is : is_pinned_where (has_rd form) rd ≡ true
-  pub rs1_is : is_pinned_where (has_rs1 form && not zero_rs1) rs1 ≡ true
-  pub rs2_is : is_pinned_where (has_rs2 form) rs2 ≡ true
-
--- an instruction that computes, with all its operands
-pub record InsParts (ins : Ins) (rd rs1 rs2 : Option ℕ) (imm : Option ℤ) (zero_rs1 : Bool) : Type 0 where
-  pub computes : class_of ins ≡ Computes
-  pub registers : RegisterParts (form_of ins) rd rs1 rs2 zero_rs1
-  pub imm_is : is_pinned_where (has_imm (form_of ins)) imm ≡ true
-  pub fits : misfit (form_of ins) (pinned_ops (bare_pins rd rs1 rs2 imm zero_rs1)) ≡ None
-
 -- a fence
-pub record FenceParts (rd rs1 rs2 : Option ℕ) (n : ℕ) : Type 0 where
-  pub rd_is : unwrap_or rd 0 ≡ 0
-  pub rs1_is : unwrap_or rs1 0 ≡ 0
-  pub rs2_is : rs2 ≡ None
-  pub small : n < 256
+pub record FenceParts (pins : Pins) : Type 0 where
+  pub rd_is : unwrap_or pins.rd 0 ≡ 0
+  pub rs1_is : unwrap_or pins.rs1 0 ≡ 0
+  pub rs2_is : pins.rs2 ≡ None
+  pub set : is_fence_set pins.imm ≡ true
 
 -- one on a CSR
-pub record CsrParts (csr : Csr) (ins : Ins) (rd rs1 rs2 : Option ℕ) (imm : Option ℤ) (zero_rs1 : Bool) : Type 0 where
+pub record CsrParts (csr : Csr) (ins : Ins) (pins : Pins) : Type 0 where
   pub named : may_name csr ≡ true
   pub change : CsrChange
   pub row : class_of ins ≡ ChangesCsr change
+  pub may : may_change (ChangesCsr change) csr pins ≡ true
   pub form : form_of ins ≡ C
-  pub may : may_change (ChangesCsr change) csr (unwrap_or rs1 0) ≡ true
-  pub registers : RegisterParts (form_of ins) rd rs1 rs2 zero_rs1
-  pub fits : misfit (form_of ins) (csr_ops csr (bare_pins rd rs1 rs2 imm zero_rs1)) ≡ None
+  pub fits : misfit (form_of ins) (pinned_ops (csr_pins csr pins)) ≡ None
 
--- an instruction with all its operands, or a word
+-- an instruction, or a word by itself
 pub data IsKnown : Request → Type 0 where
-  is_known_ins : (ins : Ins) (rd rs1 rs2 : Option ℕ) (imm : Option ℤ) (zero_rs1 : Bool) → InsParts ins rd rs1 rs2 imm zero_rs1
-      → IsKnown (a_plain (an_ins (named_ins ins) (bare_pins rd rs1 rs2 imm zero_rs1)))
-  is_known_fence : (rd rs1 rs2 : Option ℕ) (n : ℕ) (zero_rs1 : Bool) → FenceParts rd rs1 rs2 n
-      → IsKnown (a_plain (an_ins (named_ins Fence) (bare_pins rd rs1 rs2 (Some (pos n)) zero_rs1)))
-  is_known_csr : (csr : Csr) (ins : Ins) (rd rs1 rs2 : Option ℕ) (imm : Option ℤ) (zero_rs1 : Bool) → CsrParts csr ins rd rs1 rs2 imm zero_rs1
-      → IsKnown (a_plain (a_csr csr ins (bare_pins rd rs1 rs2 imm zero_rs1)))
+  is_known_ins : (ins : Ins) (pins : Pins) → class_of ins ≡ Computes → misfit (form_of ins) (pinned_ops pins) ≡ None → IsKnown (a_plain (an_ins (named_ins ins) pins))
+  is_known_fence : (pins : Pins) → FenceParts pins → IsKnown (a_plain (an_ins (named_ins Fence) pins))
+  is_known_csr : (csr : Csr) (ins : Ins) (pins : Pins) → CsrParts csr ins pins → IsKnown (a_plain (a_csr csr ins pins))
   is_known_sys : (sys : SysWord) → IsMakeableSys sys → IsKnown (a_plain (a_sys sys))
 
 without : {A : Type 0} (m : Option A) → is_none m ≡ true → m ≡ None
@@ -158,212 +95,117 @@ form_alone C e = refl
 form_alone _ e = absurd cc
 
 -- by the class of the instruction
-known_ins : (c : Class) (ins : Ins) (rd rs1 rs2 : Option ℕ) (imm : Option ℤ) (zero_rs1 : Bool) → c ≡ class_of ins → is_pinned_as c ins (bare_pins rd rs1 rs2 imm zero_rs1) ≡ true
-    → IsKnown (a_plain (an_ins (named_ins ins) (bare_pins rd rs1 rs2 imm zero_rs1)))
-known_ins Computes ins rd rs1 rs2 imm zero_rs1 is whole =
-    let both = and_parts _ _ whole in
-    let operands = and_parts _ _ both.0 in
+known_ins : (c : Class) (ins : Ins) (pins : Pins) → c ≡ class_of ins → suit_as c ins pins ≡ true → IsKnown (a_plain (an_ins (named_ins ins) pins))
+known_ins Computes ins pins is whole = is_known_ins ins pins (sym is) (without _ (and_parts _ _ whole).1)
+known_ins Fences ins pins is whole =
+    let operands = and_parts _ _ whole in
     let registers = and_parts _ _ operands.0 in
     let leading = and_parts _ _ registers.0 in
-    is_known_ins ins rd rs1 rs2 imm zero_rs1 (record {
-      computes = sym is;
-      registers = record { rd_is = leading.0; rs1_is = leading.1; rs2_is = registers.1 };
-      imm_is = operands.1;
-      fits = without _ both.1;
-    })
-known_ins Fences ins rd rs1 rs2 (Some (pos n)) zero_rs1 is whole =
-    let both = and_parts _ _ whole in
-    let operands = and_parts _ _ both.0 in
-    let registers = and_parts _ _ operands.0 in
-    subst (λ i. IsKnown (a_plain (an_ins (named_ins i) (bare_pins rd rs1 rs2 (Some (pos n)) zero_rs1)))) (fence_alone ins (sym is))
-    (is_known_fence rd rs1 rs2 n zero_rs1 (record {
-      rd_is = eqb-true _ _ registers.0;
-      rs1_is = eqb-true _ _ registers.1;
-      rs2_is = without rs2 operands.1;
-      small = ltb-true n 256 both.1;
-    }))
-known_ins Fences ins rd rs1 rs2 (Some (negsuc n)) zero_rs1 is whole = absurd (let none : false ≡ true = (and_parts _ _ whole).1 in cc)
-known_ins Fences ins rd rs1 rs2 None zero_rs1 is whole = absurd (let none : false ≡ true = (and_parts _ _ whole).1 in cc)
-known_ins _ ins rd rs1 rs2 imm zero_rs1 is whole = absurd cc
+    subst (λ i. IsKnown (a_plain (an_ins (named_ins i) pins))) (fence_alone ins (sym is))
+    (is_known_fence pins (record { rd_is = eqb-true _ _ leading.0; rs1_is = eqb-true _ _ leading.1; rs2_is = without _ registers.1; set = operands.1 }))
+known_ins _ ins pins is whole = absurd cc
 
-known_change : (c : Class) (csr : Csr) (ins : Ins) (rd rs1 rs2 : Option ℕ) (imm : Option ℤ) (zero_rs1 : Bool) → c ≡ class_of ins → may_name csr ≡ true
-    → may_change c csr (unwrap_or rs1 0) ≡ true → form_of ins ≡ C → RegisterParts (form_of ins) rd rs1 rs2 zero_rs1
-    → misfit (form_of ins) (csr_ops csr (bare_pins rd rs1 rs2 imm zero_rs1)) ≡ None → CsrParts csr ins rd rs1 rs2 imm zero_rs1
-known_change (ChangesCsr change) csr ins rd rs1 rs2 imm zero_rs1 is named may form registers fits =
-    record { named = named; change = change; row = sym is; form = form; may = may; registers = registers; fits = fits }
-known_change _ csr ins rd rs1 rs2 imm zero_rs1 is named may form registers fits = absurd cc
+known_change : (c : Class) (csr : Csr) (ins : Ins) (pins : Pins) → c ≡ class_of ins → may_name csr ≡ true → may_change c csr pins ≡ true → form_of ins ≡ C
+    → misfit (form_of ins) (pinned_ops (csr_pins csr pins)) ≡ None → CsrParts csr ins pins
+known_change (ChangesCsr change) csr ins pins is named may form fits = record { named = named; change = change; row = sym is; may = may; form = form; fits = fits }
+known_change _ csr ins pins is named may form fits = absurd cc
 
-known_csr : (csr : Csr) (ins : Ins) (rd rs1 rs2 : Option ℕ) (imm : Option ℤ) (zero_rs1 : Bool) → is_csr_pinned csr ins (bare_pins rd rs1 rs2 imm zero_rs1) ≡ true
-    → CsrParts csr ins rd rs1 rs2 imm zero_rs1
-known_csr csr ins rd rs1 rs2 imm zero_rs1 whole =
+known_csr : (csr : Csr) (ins : Ins) (pins : Pins) → suit_csr csr ins pins ≡ true → CsrParts csr ins pins
+known_csr csr ins pins whole =
     let all = and_parts _ _ whole in
-    let pinned = and_parts _ _ all.0 in
-    let by_register = and_parts _ _ pinned.0 in
+    let given = and_parts _ _ all.0 in
+    let by_register = and_parts _ _ given.0 in
     let may = and_parts _ _ by_register.0 in
-    let operands = and_parts _ _ pinned.1 in
-    let registers = and_parts _ _ operands.0 in
-    let leading = and_parts _ _ registers.0 in
-    known_change (class_of ins) csr ins rd rs1 rs2 imm zero_rs1 refl may.0 may.1 (form_alone (form_of ins) by_register.1)
-    (record { rd_is = leading.0; rs1_is = leading.1; rs2_is = registers.1 }) (without _ all.1)
+    known_change (class_of ins) csr ins pins refl may.0 may.1 (form_alone (form_of ins) by_register.1) (without _ all.1)
 
 pub known : (r : Request) → IsMakeableRequest r → IsKnown r
-known (a_plain (an_ins (named_ins ins) pins)) m =
-    let alone : bare_pins pins.rd pins.rs1 pins.rs2 pins.imm pins.zero_rs1 ≡ pins = sym m.alone in
-    subst (λ p. IsKnown (a_plain (an_ins (named_ins ins) p))) alone
-    (known_ins (class_of ins) ins pins.rd pins.rs1 pins.rs2 pins.imm pins.zero_rs1 refl (ap (is_fully_pinned ins) alone ∙ m.whole))
+known (a_plain (an_ins (named_ins ins) pins)) m = known_ins (class_of ins) ins pins refl m.whole
 known (a_plain (an_ins (by_tree tree) pins)) m = absurd m
 known (a_plain (a_mem r)) m = absurd m
 known (a_plain (a_jump r)) m = absurd m
-known (a_plain (a_csr csr ins pins)) m =
-    let alone : bare_pins pins.rd pins.rs1 pins.rs2 pins.imm pins.zero_rs1 ≡ pins = sym m.alone in
-    subst (λ p. IsKnown (a_plain (a_csr csr ins p))) alone
-    (is_known_csr csr ins pins.rd pins.rs1 pins.rs2 pins.imm pins.zero_rs1 (known_csr csr ins pins.rd pins.rs1 pins.rs2 pins.imm pins.zero_rs1 (ap (is_csr_pinned csr ins) alone ∙ m.whole)))
+known (a_plain (a_csr csr ins pins)) m = is_known_csr csr ins pins (known_csr csr ins pins m.whole)
 known (a_plain (a_sys sys)) m = is_known_sys sys m
 known (a_plain (a_value value pins)) m = absurd m
 known (a_loop times counter body) m = absurd m
 known (a_set tree path weight) m = absurd m
 known (a_pick tree) m = absurd m
 
--- ---- what is drawn
+-- ---- the word that is drawn
 
-none_below : (n least pin : ℕ) → pin < least → filter (λ r. eqb r pin) (range_with_len least n) ≡ []
-none_below zero least pin low = refl
-none_below (suc n) least pin low =
-    let other : eqb least pin ≡ false = grind (arith, nat_tests) in
-    rw other (none_below n (least + 1) pin (omega (arith, low)))
+-- what is given fits the instruction's word
+abbrev pub AskedFits : AskedWord → Type 0
+AskedFits (of_ins ins pins) = fits_word ins (pinned_ops pins) ≡ true
+AskedFits (itself word) = Unit {0}
 
-one_at : (n least pin : ℕ) → least ≤ pin → pin < least + n → filter (λ r. eqb r pin) (range_with_len least n) ≡ pin ∷ []
-one_at zero least pin low high = absurd (omega (arith, low, high))
-one_at (suc n) least pin low high = of (eqb least pin) refl (one_at n (least + 1) pin)
-  where
-    of : (t : Bool) → t ≡ eqb least pin
-        → (least + 1 ≤ pin → pin < least + 1 + n → filter (λ r. eqb r pin) (range_with_len (least + 1) n) ≡ pin ∷ [])
-        → cond t (least ∷ filter (λ r. eqb r pin) (range_with_len (least + 1) n)) (filter (λ r. eqb r pin) (range_with_len (least + 1) n)) ≡ pin ∷ []
-    of true is more =
-        let same : least ≡ pin = eqb-true least pin (sym is) in
-        let less : pin < least + 1 = omega (arith, same) in
-        ap (λ q. q ∷ filter (λ r. eqb r pin) (range_with_len (least + 1) n)) same ∙ ap (λ l. pin ∷ l) (none_below n (least + 1) pin less)
-    of false is more =
-        let above : least + 1 ≤ pin = grind (arith, nat_tests) in
-        more above (omega (arith, high))
+tells_none : {A : Type 0} (m : Option A) → m ≡ None → is_none m ≡ true
+tells_none m e = ap is_none e
 
--- a register that is pinned is the one member
-abbrev pub just : ℕ → Operand
-just r = record { members = r ∷ []; drawn = false }
+fence_set_fits : (imm : Option ℤ) → is_fence_set imm ≡ true → misfit I (record { rd = 0; rs1 = 0; rs2 = 0; imm = unwrap_or imm (pos 0); aqrl = 0 }) ≡ None
+fence_set_fits None set = refl
+fence_set_fits (Some (pos n)) set =
+    let small : n < 256 = ltb-true n 256 set in
+    let test : ltb n 2048 ≡ true = grind (arith, nat_tests) in
+    rw test refl
+fence_set_fits (Some (negsuc n)) set = absurd cc
 
-pinned_members : (pin : ℕ) → pin < 32 → filter (λ r. eqb r pin) (range_with_len 0 32) ≡ pin ∷ []
-pinned_members pin small = one_at 32 0 pin (omega arith) (omega (arith, small))
+fence_fits : (pins : Pins) → FenceParts pins → misfit I (pinned_ops pins) ≡ None
+fence_fits pins whole =
+    (λ i. misfit I (record { rd = whole.rd_is i; rs1 = whole.rs1_is i; rs2 = unwrap_or (whole.rs2_is i) 0; imm = unwrap_or pins.imm (pos 0); aqrl = 0 })) ∙ fence_set_fits pins.imm whole.set
 
--- all registers may be drawn where none is to be avoided
-all_allowed : (rd rs1 rs2 : Option ℕ) (imm : Option ℤ) (zero_rs1 : Bool) (counter : Option ℕ) → counter ≡ None
-    → allowed (bare_pins rd rs1 rs2 imm zero_rs1) counter 0 ≡ range_with_len 0 32
-all_allowed rd rs1 rs2 imm zero_rs1 counter none = ap (λ c. allowed (bare_pins rd rs1 rs2 imm zero_rs1) c 0) none
+known_fits : (r : Request) → IsKnown r → AskedFits (asked_word r)
+known_fits r (is_known_ins ins pins computes fits) = tells_none _ fits
+known_fits r (is_known_fence pins whole) = tells_none _ (fence_fits pins whole)
+known_fits r (is_known_csr csr ins pins whole) = tells_none _ whole.fits
+known_fits r (is_known_sys sys may) = tt
 
--- a register that is given exactly where the form has it, in its field
-pinned_operand : (has : Bool) (pin : Option ℕ) → is_pinned_where has pin ≡ true → fits_field has 32 (unwrap_or pin 0) ≡ true
-    → if_has has (operand (range_with_len 0 32) pin) ≡ just (unwrap_or pin 0)
-pinned_operand true None there small = absurd cc
-pinned_operand true (Some r) there small = ap (λ members. record { members = members; drawn = false }) (pinned_members r (ltb-true r 32 small))
-pinned_operand false None there small = refl
-pinned_operand false (Some r) there small = absurd cc
+pub fits : (r : Request) → IsMakeableRequest r → AskedFits (asked_word r)
+fits r makeable = known_fits r (known r makeable)
 
--- rs1 of a read is no operand, and 0
-fits_less : (has zero_rs1 : Bool) (pin : Option ℕ) → is_pinned_where (has && not zero_rs1) pin ≡ true → fits_field has 32 (unwrap_or pin 0) ≡ true
-    → fits_field (has && not zero_rs1) 32 (unwrap_or pin 0) ≡ true
-fits_less true true None there fits = refl
-fits_less true true (Some r) there fits = absurd cc
-fits_less true false pin there fits = fits
-fits_less false zero_rs1 pin there fits = fits
+-- where a choice of registers serves, it is one for the request
+pub word_drawn : (a : AskedWord) (draws : Draws) → AskedFits a → is_served a ≡ true → IsWordFor a (worded a draws).word
+word_drawn (of_ins ins pins) draws fits served = record {
+  ops = (operands_drawn ins pins None draws).ops;
+  word_is = refl;
+  fits = drawn_fits ins pins None draws fits served;
+  serves = drawn_serves ins pins None draws served;
+}
+word_drawn (itself word) draws fits served = refl
 
--- the operands among the registers, by the form alone
-registers_by_form : (ins : Ins) (pins : Pins) (counter : Option ℕ) → (class_of ins ≡ Fences → ⊥)
-    → registers_of ins pins counter
-    ≡ if_has (has_rd (form_of ins)) (operand (allowed pins counter 0) pins.rd)
-    ∷ if_has (has_rs1 (form_of ins) && not pins.zero_rs1) (operand (allowed pins counter 0) pins.rs1)
-    ∷ if_has (has_rs2 (form_of ins)) (operand (allowed pins counter 0) pins.rs2)
-    ∷ []
-registers_by_form Fence pins counter other = absurd (other refl)
-registers_by_form _ pins counter other = refl
+-- no more than four words are drawn for it
+pub worded_on : (a : AskedWord) (draws : Draws) → (worded a draws).left ≡ record draws { drawn = (worded a draws).left.drawn }
+worded_on (of_ins ins pins) draws = (drawn_on ins pins None draws).0
+worded_on (itself word) draws = refl
 
-pinned_registers : (ins : Ins) (rd rs1 rs2 : Option ℕ) (imm : Option ℤ) (zero_rs1 : Bool) (ops : Ops) (counter : Option ℕ) → (class_of ins ≡ Fences → ⊥)
-    → RegisterParts (form_of ins) rd rs1 rs2 zero_rs1 → ops.rd ≡ unwrap_or rd 0 → ops.rs1 ≡ unwrap_or rs1 0 → ops.rs2 ≡ unwrap_or rs2 0 → misfit (form_of ins) ops ≡ None → counter ≡ None
-    → registers_of ins (bare_pins rd rs1 rs2 imm zero_rs1) counter ≡ just (unwrap_or rd 0) ∷ just (unwrap_or rs1 0) ∷ just (unwrap_or rs2 0) ∷ []
-pinned_registers ins rd rs1 rs2 imm zero_rs1 ops counter other parts rd_is rs1_is rs2_is fits none =
-    let form : Form = form_of ins in
-    let fit = all_fit form ops fits in
-    let first = pinned_operand (has_rd form) rd parts.rd_is (ap (fits_field (has_rd form) 32) (sym rd_is) ∙ fit Rd) in
-    let second = pinned_operand (has_rs1 form && not zero_rs1) rs1 parts.rs1_is
-    (fits_less (has_rs1 form) zero_rs1 rs1 parts.rs1_is (ap (fits_field (has_rs1 form) 32) (sym rs1_is) ∙ fit Rs1)) in
-    let third = pinned_operand (has_rs2 form) rs2 parts.rs2_is (ap (fits_field (has_rs2 form) 32) (sym rs2_is) ∙ fit Rs2) in
-    let all = all_allowed rd rs1 rs2 imm zero_rs1 counter none in
-    registers_by_form ins (bare_pins rd rs1 rs2 imm zero_rs1) counter other
-    ∙ ap (λ members. if_has (has_rd form) (operand members rd) ∷ if_has (has_rs1 form && not zero_rs1) (operand members rs1) ∷ if_has (has_rs2 form) (operand members rs2) ∷ []) all
-    ∙ (λ i. first i ∷ second i ∷ third i ∷ [])
+pub few_worded : (a : AskedWord) (draws : Draws) → (worded a draws).left.drawn ≤ draws.drawn + 4
+few_worded (of_ins ins pins) draws = (drawn_on ins pins None draws).1
+few_worded (itself word) draws = omega arith
 
--- an immediate is drawn by the form alone
-imm_by_form : (ins : Ins) (word : ℕ) → (class_of ins ≡ Fences → ⊥) → imm_by ins word ≡ imm_in (form_of ins) word
-imm_by_form Fence word other = absurd (other refl)
-imm_by_form _ word other = refl
+-- ---- what is prepared
 
--- a form without one draws none
-none_drawn : (form : Form) (word : ℕ) → has_imm form ≡ false → imm_in form word ≡ None
-none_drawn U word lacks = absurd cc
-none_drawn I word lacks = absurd cc
-none_drawn H6 word lacks = absurd cc
-none_drawn H5 word lacks = absurd cc
-none_drawn _ word lacks = refl
+no_counter : (s : HartState) → s.loop ≡ None → counter_of s ≡ None
+no_counter s is = ap (option_map (λ (l : Loop). l.counter)) is
 
--- the immediate that is given stands behind the registers
-pinned_imm : (ins : Ins) (imm : Option ℤ) (d : Drawn) → (class_of ins ≡ Fences → ⊥) → is_pinned_where (has_imm (form_of ins)) imm ≡ true → d.ops.imm ≡ pos 0
-    → with_imm ins imm d ≡ record d { ops = record d.ops { imm = unwrap_or imm (pos 0) } }
-pinned_imm ins (Some i) d other there bare = refl
-pinned_imm ins None d other there bare =
-    ap (λ drawn. with_drawn_imm drawn d) (imm_by_form ins (next_word d.left) other ∙ none_drawn (form_of ins) (next_word d.left) (lacks (has_imm (form_of ins)) there))
-    ∙ ap (λ z. record d { ops = record d.ops { imm = z } }) bare
-  where
-    lacks : (has : Bool) → is_pinned_where {A = ℤ} has None ≡ true → has ≡ false
-    lacks true e = absurd cc
-    lacks false e = refl
-
-abbrev drawn_so : Option ℕ → Option ℕ → Option ℕ → Draws → Drawn
-drawn_so rd rs1 rs2 draws = record { ops = record { rd = unwrap_or rd 0; rs1 = unwrap_or rs1 0; rs2 = unwrap_or rs2 0; imm = pos 0; aqrl = 0 }; left = draws }
-
-no_fence : (c : Class) → c ≡ Computes → c ≡ Fences → ⊥
-no_fence Computes is fences = absurd cc
-no_fence _ is fences = absurd cc
+-- the request makes the one word, behind those that chose its operands
+prepared_is : (r : Request) → IsKnown r → (work : Work) (s : HartState) (leaf : Option Name) → s.loop ≡ None
+    → prepared work s r leaf ≡ makes ((worded (asked_word r) s.draws).word ∷ []) (demand_asked r) (worded (asked_word r) s.draws).left
+prepared_is r (is_known_ins ins pins computes fits) work s leaf is =
+    ap (λ c. makes (word_by ins (operands_drawn ins pins c s.draws).ops ∷ []) (Some Quiet) (operands_drawn ins pins c s.draws).left) (no_counter s is)
+prepared_is r (is_known_fence pins whole) work s leaf is =
+    ap (λ c. makes (word_by Fence (operands_drawn Fence pins c s.draws).ops ∷ []) (Some Quiet) (operands_drawn Fence pins c s.draws).left) (no_counter s is)
+prepared_is r (is_known_csr csr ins pins whole) work s leaf is =
+    ap (λ c. makes (word_by ins (operands_drawn ins (csr_pins csr pins) c s.draws).ops ∷ []) None (operands_drawn ins (csr_pins csr pins) c s.draws).left) (no_counter s is)
+prepared_is r (is_known_sys sys may) work s leaf is = refl
 
 no_fence_change : (c : Class) (change : CsrChange) → c ≡ ChangesCsr change → c ≡ Fences → ⊥
 no_fence_change (ChangesCsr other) change is fences = absurd cc
 no_fence_change _ change is fences = absurd cc
 
-ins_registers : (ins : Ins) (rd rs1 rs2 : Option ℕ) (imm : Option ℤ) (zero_rs1 : Bool) (counter : Option ℕ) → InsParts ins rd rs1 rs2 imm zero_rs1 → counter ≡ None
-    → registers_of ins (bare_pins rd rs1 rs2 imm zero_rs1) counter ≡ just (unwrap_or rd 0) ∷ just (unwrap_or rs1 0) ∷ just (unwrap_or rs2 0) ∷ []
-ins_registers ins rd rs1 rs2 imm zero_rs1 counter whole none =
-    pinned_registers ins rd rs1 rs2 imm zero_rs1 (pinned_ops (bare_pins rd rs1 rs2 imm zero_rs1)) counter (no_fence (class_of ins) whole.computes) whole.registers refl refl refl whole.fits none
+-- the number of the CSR is no register
+csr_registers : (csr : Csr) (ins : Ins) (pins : Pins) (counter : Option ℕ) → CsrParts csr ins pins → registers_of ins pins counter ≡ registers_of ins (csr_pins csr pins) counter
+csr_registers csr ins pins counter whole =
+    let other = no_fence_change (class_of ins) whole.change whole.row in registers_by_form ins pins counter other ∙ sym (registers_by_form ins (csr_pins csr pins) counter other)
 
-csr_registers : (csr : Csr) (ins : Ins) (rd rs1 rs2 : Option ℕ) (imm all : Option ℤ) (zero_rs1 : Bool) (counter : Option ℕ) → CsrParts csr ins rd rs1 rs2 imm zero_rs1 → counter ≡ None
-    → registers_of ins (bare_pins rd rs1 rs2 all zero_rs1) counter ≡ just (unwrap_or rd 0) ∷ just (unwrap_or rs1 0) ∷ just (unwrap_or rs2 0) ∷ []
-csr_registers csr ins rd rs1 rs2 imm all zero_rs1 counter whole none =
-    pinned_registers ins rd rs1 rs2 all zero_rs1 (csr_ops csr (bare_pins rd rs1 rs2 imm zero_rs1)) counter (no_fence_change (class_of ins) whole.change whole.row) whole.registers refl refl refl whole.fits none
-
-no_counter : (s : HartState) → s.loop ≡ None → counter_of s ≡ None
-no_counter s is = ap (option_map (λ (l : Loop). l.counter)) is
-
--- the request makes the one word, and leaves the stream as it was
-prepared_is : (r : Request) → IsKnown r → (work : Work) (s : HartState) (leaf : Option Name) → s.loop ≡ None
-    → prepared work s r leaf ≡ makes (pinned_word r ∷ []) (pinned_demand r) s.draws
-prepared_is r (is_known_ins ins rd rs1 rs2 imm zero_rs1 whole) work s leaf is =
-    ap (λ (d : Drawn). makes (word_by ins d.ops ∷ []) (Some Quiet) d.left)
-    (ap (λ os. with_imm ins imm (registers_drawn s.draws os)) (ins_registers ins rd rs1 rs2 imm zero_rs1 (counter_of s) whole (no_counter s is))
-    ∙ pinned_imm ins imm (drawn_so rd rs1 rs2 s.draws) (no_fence (class_of ins) whole.computes) whole.imm_is refl)
-prepared_is r (is_known_fence rd rs1 rs2 n zero_rs1 whole) work s leaf is =
-    λ i. makes (word_by Fence (record { rd = sym whole.rd_is i; rs1 = sym whole.rs1_is i; rs2 = unwrap_or (sym whole.rs2_is i) 0; imm = pos n; aqrl = 0 }) ∷ []) (Some Quiet) s.draws
-prepared_is r (is_known_csr csr ins rd rs1 rs2 imm zero_rs1 whole) work s leaf is =
-    ap (λ os. let d : Drawn = with_imm ins (Some (pos (csr_number csr))) (registers_drawn s.draws os) in makes (word_by ins d.ops ∷ []) None d.left)
-    (csr_registers csr ins rd rs1 rs2 imm (Some (pos (csr_number csr))) zero_rs1 (counter_of s) whole (no_counter s is))
-prepared_is r (is_known_sys sys may) work s leaf is = refl
-
--- ---- no cause holds
+-- ---- the cause
 
 -- what is known of the hart's plan and of the job
 pub record IsPlainWork (work : Work) (h : ℕ) : Type 0 where
@@ -393,19 +235,61 @@ has_first_page work h plain = let some = plain.some_pages in omega (arith, some)
 pub no_space : (work : Work) (h : ℕ) → IsPlainWork work h → (plan_of work h).space ≡ None
 no_space work h plain = ap (λ (p : HartPlan). p.space) plain.plan
 
-serves_is : (r : Request) → IsKnown r → (work : Work) (s : HartState) (heard : Heard) (p : Prepared) → s.loop ≡ None → holds_cause work s heard r p NoRegister ≡ false
-serves_is r (is_known_ins ins rd rs1 rs2 imm zero_rs1 whole) work s heard p is =
-    ap (λ os. not (serve os)) (ins_registers ins rd rs1 rs2 imm zero_rs1 (counter_of s) whole (no_counter s is))
-serves_is r (is_known_fence rd rs1 rs2 n zero_rs1 whole) work s heard p is = refl
-serves_is r (is_known_csr csr ins rd rs1 rs2 imm zero_rs1 whole) work s heard p is =
-    ap (λ os. not (serve os)) (csr_registers csr ins rd rs1 rs2 imm imm zero_rs1 (counter_of s) whole (no_counter s is))
-serves_is r (is_known_sys sys may) work s heard p is = refl
+lacks_is : (r : Request) → IsKnown r → (work : Work) (s : HartState) (heard : Heard) (p : Prepared) → s.loop ≡ None → holds_cause work s heard r p NoRegister ≡ not (is_served (asked_word r))
+lacks_is r (is_known_ins ins pins computes fits) work s heard p is = ap (λ c. not (serve (registers_of ins pins c))) (no_counter s is)
+lacks_is r (is_known_fence pins whole) work s heard p is = refl
+lacks_is r (is_known_csr csr ins pins whole) work s heard p is =
+    ap (λ c. not (serve (registers_of ins pins c))) (no_counter s is) ∙ ap (λ os. not (serve os)) (csr_registers csr ins pins None whole)
+lacks_is r (is_known_sys sys may) work s heard p is = refl
 
 not_and : (b c : Bool) → c ≡ false → (b && c) ≡ false
 not_and true c is = is
 not_and false c is = refl
 
-module _ (work : Work) (s : HartState) (heard : Heard) (plain : IsPlainWork work s.hart.number) (few : s.steps ≤ 7000) (early : index_of work s ≤ 999) where
+-- no cause but that no choice of registers serves
+abbrev cause_by : Bool → Option Cause
+cause_by true = None
+cause_by false = Some NoRegister
+
+found_cause : (served : Bool) → cond (not served) (Some NoRegister) None ≡ cause_by served
+found_cause true = refl
+found_cause false = refl
+
+-- what the hart does as the request begins, and its phase behind it
+abbrev begun_of : ℕ → Request → Begun
+begun_of k r = record { k = k; request = r; pick = None; settle = None; short = None }
+
+abbrev act_by : Bool → ℕ → Request → Act
+act_by true k r = begins (begun_of k r) None []
+act_by false k r = refuses (begun_of k r) NoRegister
+
+abbrev pub begun_act : ℕ → Request → Act
+begun_act k r = act_by (is_served (asked_word r)) k r
+
+abbrev pub making_word : ℕ → Request → ℕ → Phase
+making_word k r word = making (record { k = k; words = word ∷ []; sequel = is_done (demand_asked r) })
+
+abbrev phase_by : Bool → ℕ → Request → ℕ → Phase
+phase_by true k r word = making_word k r word
+phase_by false k r word = between
+
+abbrev draws_by : Bool → Draws → Draws → Draws
+draws_by true left draws = left
+draws_by false left draws = draws
+
+abbrev pub state_by : Bool → HartState → Request → List ScriptItem → HartState
+state_by served s r rest = record s {
+  draws = draws_by served (worded (asked_word r) s.draws).left s.draws;
+  left = rest;
+  count = s.count + 1;
+  phase = phase_by served s.count r (worded (asked_word r) s.draws).word;
+}
+
+-- the state when the item has begun
+abbrev pub begun_state : HartState → ScriptItem → List ScriptItem → HartState
+begun_state s item rest = state_by (is_served (asked_word item.request)) s item.request rest
+
+module _ (work : Work) (s : HartState) (heard : Heard) (plain : IsPlainWork work s.hart.number) (few : s.steps ≤ 7000) (early : index_of work s ≤ 999) (no_loop : s.loop ≡ None) where
   spent_not : (n : ℕ) → n ≤ 15 → (is_none s.loop && ltb work.budget (s.steps + n + 1)) ≡ false
   spent_not n small =
       let budget : work.budget ≡ 16384 = plain.budget in
@@ -416,105 +300,106 @@ module _ (work : Work) (s : HartState) (heard : Heard) (plain : IsPlainWork work
       let words : 1024 ≤ window_words work s.hart.number = has_first_page work s.hart.number plain in
       not_and (is_none s.loop) _ (grind (arith, nat_tests))
 
-  cause_not : (r : Request) → IsKnown r → s.loop ≡ None → (draws : Draws) → cause_of work s heard r (makes (pinned_word r ∷ []) (pinned_demand r) draws) ≡ None
-  cause_not r k is draws = of r k (serves_is r k work s heard (makes (pinned_word r ∷ []) (pinned_demand r) draws) is)
+  cause_is : (r : Request) → IsKnown r → (word : ℕ) (draws : Draws) → cause_of work s heard r (makes (word ∷ []) (demand_asked r) draws) ≡ cause_by (is_served (asked_word r))
+  cause_is r k word draws = of r k (lacks_is r k work s heard (makes (word ∷ []) (demand_asked r) draws) no_loop)
     where
-      of : (r : Request) → IsKnown r → holds_cause work s heard r (makes (pinned_word r ∷ []) (pinned_demand r) draws) NoRegister ≡ false
-          → cause_of work s heard r (makes (pinned_word r ∷ []) (pinned_demand r) draws) ≡ None
-      of r (is_known_ins ins rd rs1 rs2 imm zero_rs1 whole) serves = rw (spent_not 15 (omega arith), serves, full_not) refl
-      of r (is_known_fence rd rs1 rs2 n zero_rs1 whole) serves = rw (spent_not 15 (omega arith), full_not) refl
-      of r (is_known_csr csr ins rd rs1 rs2 imm zero_rs1 whole) serves = rw (spent_not 15 (omega arith), serves, full_not) refl
-      of r (is_known_sys sys may) serves = rw (spent_not 15 (omega arith), full_not) refl
+      of : (r : Request) → IsKnown r → holds_cause work s heard r (makes (word ∷ []) (demand_asked r) draws) NoRegister ≡ not (is_served (asked_word r))
+          → cause_of work s heard r (makes (word ∷ []) (demand_asked r) draws) ≡ cause_by (is_served (asked_word r))
+      of r (is_known_ins ins pins computes fits) lacks = rw (spent_not 15 (omega arith), lacks, full_not) (found_cause (serve (registers_of ins pins None)))
+      of r (is_known_fence pins whole) lacks = rw (spent_not 15 (omega arith), full_not) refl
+      of r (is_known_csr csr ins pins whole) lacks = rw (spent_not 15 (omega arith), lacks, full_not) (found_cause (serve (registers_of ins (csr_pins csr pins) None)))
+      of r (is_known_sys sys may) lacks = rw (spent_not 15 (omega arith), full_not) refl
 
-  -- the entry begins, and its word is made next
-  abbrev pub begun_so : ScriptItem → List ScriptItem → Turned
-  begun_so item rest = record {
-    act = begins (record { k = s.count; request = item.request; pick = None; settle = None; short = None }) None [];
-    state = record s { left = rest; count = s.count + 1; phase = making (record { k = s.count; words = pinned_word item.request ∷ []; sequel = is_done (pinned_demand item.request) }) };
-  }
-
-  accepts : (item : ScriptItem) (rest : List ScriptItem) → IsKnown item.request
-      → begin_prepared work s heard (record { entry = item; state = record s { left = rest; count = s.count + 1 } }) (makes (pinned_word item.request ∷ []) (pinned_demand item.request) s.draws) None ≡ begun_so item rest
-  accepts item rest k = of item.request k
+  -- the entry begins, or is refused
+  begun_by : (served : Bool) (item : ScriptItem) (rest : List ScriptItem) → IsKnown item.request
+      → begin_prepared work s heard (record { entry = item; state = record s { left = rest; count = s.count + 1 } })
+      (makes ((worded (asked_word item.request) s.draws).word ∷ []) (demand_asked item.request) (worded (asked_word item.request) s.draws).left) (cause_by served)
+      ≡ record { act = act_by served s.count item.request; state = state_by served s item.request rest }
+  begun_by served item rest k = of served item.request k
     where
-      of : (r : Request) → IsKnown r
-          → begin_prepared work s heard (record { entry = record { request = r; arms = item.arms }; state = record s { left = rest; count = s.count + 1 } }) (makes (pinned_word r ∷ []) (pinned_demand r) s.draws) None
-          ≡ begun_so (record { request = r; arms = item.arms }) rest
-      of r (is_known_ins ins rd rs1 rs2 imm zero_rs1 whole) = rw (no_space work s.hart.number plain) refl
-      of r (is_known_fence rd rs1 rs2 n zero_rs1 whole) = rw (no_space work s.hart.number plain) refl
-      of r (is_known_csr csr ins rd rs1 rs2 imm zero_rs1 whole) = rw (no_space work s.hart.number plain) refl
-      of r (is_known_sys sys may) = rw (no_space work s.hart.number plain) refl
+      of : (served : Bool) (r : Request) → IsKnown r
+          → begin_prepared work s heard (record { entry = record { request = r; arms = item.arms }; state = record s { left = rest; count = s.count + 1 } })
+          (makes ((worded (asked_word r) s.draws).word ∷ []) (demand_asked r) (worded (asked_word r) s.draws).left) (cause_by served)
+          ≡ record { act = act_by served s.count r; state = state_by served s r rest }
+      of true r (is_known_ins ins pins computes fits) = rw (no_space work s.hart.number plain) refl
+      of true r (is_known_fence pins whole) = rw (no_space work s.hart.number plain) refl
+      of true r (is_known_csr csr ins pins whole) = rw (no_space work s.hart.number plain) refl
+      of true r (is_known_sys sys may) = rw (no_space work s.hart.number plain) refl
+      of false r (is_known_ins ins pins computes fits) = rw no_loop refl
+      of false r (is_known_fence pins whole) = rw no_loop refl
+      of false r (is_known_csr csr ins pins whole) = rw no_loop refl
+      of false r (is_known_sys sys may) = rw no_loop refl
 
-  begin_turn_is : (item : ScriptItem) (rest : List ScriptItem) → IsKnown item.request → s.loop ≡ None
-      → begin_turn work s heard (record { entry = item; state = record s { left = rest; count = s.count + 1 } }) ≡ begun_so item rest
-  begin_turn_is item rest k is =
+  begin_turn_is : (item : ScriptItem) (rest : List ScriptItem) → IsKnown item.request
+      → begin_turn work s heard (record { entry = item; state = record s { left = rest; count = s.count + 1 } }) ≡ record { act = begun_act s.count item.request; state = begun_state s item rest }
+  begin_turn_is item rest k =
       let n : Next = record { entry = item; state = record s { left = rest; count = s.count + 1 } } in
-      ap (λ p. begin_prepared work s heard n p (cause_of work s heard item.request p)) (prepared_is item.request k work s heard.leaf is)
-      ∙ ap (begin_prepared work s heard n (makes (pinned_word item.request ∷ []) (pinned_demand item.request) s.draws)) (cause_not item.request k is s.draws)
-      ∙ accepts item rest k
-
--- the state in which the item's word is made
-abbrev pub begun_state : HartState → ScriptItem → List ScriptItem → HartState
-begun_state s item rest =
-    record s { left = rest; count = s.count + 1; phase = making (record { k = s.count; words = pinned_word item.request ∷ []; sequel = is_done (pinned_demand item.request) }) }
+      let word : ℕ = (worded (asked_word item.request) s.draws).word in
+      let left : Draws = (worded (asked_word item.request) s.draws).left in
+      ap (λ p. begin_prepared work s heard n p (cause_of work s heard item.request p)) (prepared_is item.request k work s heard.leaf no_loop)
+      ∙ ap (begin_prepared work s heard n (makes (word ∷ []) (demand_asked item.request) left)) (cause_is item.request k word left)
+      ∙ begun_by (is_served (asked_word item.request)) item rest k
 
 -- Between two requests the next one of the script begins, whatever its parts answer.
 pub begins_is : (work : Work) (s : HartState) (heard : Heard) (item : ScriptItem) (rest : List ScriptItem) → KeepsRules work → s.hart.number < hart_count work
     → s.phase ≡ between → s.loop ≡ None → s.left ≡ item ∷ rest → IsMakeable item → s.steps ≤ 7000 → index_of work s ≤ 999
-    → turned work s heard ≡ Some (record {
-      act = begins (record { k = s.count; request = item.request; pick = None; settle = None; short = None }) None [];
-      state = begun_state s item rest;
-    })
+    → turned work s heard ≡ Some (record { act = begun_act s.count item.request; state = begun_state s item rest })
 begins_is work s heard item rest keeps member at_phase no_loop left makeable few early =
     ap (turned_in work s heard) at_phase
     ∙ ap (λ l. next_turn work s heard (next_of s l s.left)) no_loop
     ∙ ap (λ left. next_turn work s heard (next_of s None left)) left
-    ∙ ap Some (begin_turn_is work s heard (plain_work work s.hart.number keeps member) few early item rest (known item.request makeable.0) no_loop)
+    ∙ ap Some (begin_turn_is work s heard (plain_work work s.hart.number keeps member) few early no_loop item rest (known item.request makeable.0))
+
+-- its event, which asks nothing of any part
+pub begun_event : (work : Work) (h k : ℕ) (r : Request) → IsMakeableRequest r → task_event h (begun_lines h k r) ≡ event_of work h (begun_act k r)
+begun_event work h k r makeable = of r (known r makeable) (is_served (asked_word r))
+  where
+    of : (r : Request) → IsKnown r → (served : Bool)
+        → task_event h (cond served (begins_line h k (request_kind r) ∷ []) (begins_line h k (request_kind r) ∷ refused h k NoRegister 0 ∷ [])) ≡ event_of work h (act_by served k r)
+    of r (is_known_ins ins pins computes fits) true = refl
+    of r (is_known_ins ins pins computes fits) false = refl
+    of r (is_known_fence pins whole) true = refl
+    of r (is_known_fence pins whole) false = refl
+    of r (is_known_csr csr ins pins whole) true = refl
+    of r (is_known_csr csr ins pins whole) false = refl
+    of r (is_known_sys sys may) true = refl
+    of r (is_known_sys sys may) false = refl
 
 -- ---- the word
 
-if_pinned : {A : Type 0} (m : Option A) (d : A) → IfSome m (λ a. unwrap_or m d ≡ a)
-if_pinned None d = tt
-if_pinned (Some a) d = refl
-
--- rs1 of a read is 0
-zero_read : (has zero_rs1 : Bool) (pin : Option ℕ) → is_pinned_where (has && not zero_rs1) pin ≡ true → zero_rs1 ≡ true → unwrap_or pin 0 ≡ 0
-zero_read has zero_rs1 None there is = refl
-zero_read true zero_rs1 (Some r) there is = absurd (let no = ap not is in cc)
-zero_read false zero_rs1 (Some r) there is = absurd cc
-
--- What is known of the word of a request, by its row: how its step goes, that this is what the request demands, and that it meets
+-- What is known of a word for a request, by its row: how its step goes, that this is what the request demands, and that it meets
 -- the request with what its handler does behind it.
-pub record IsAskedBy (r : Request) (m : Option Decoded) : Type 0 where
-  pub quiet : IsQuietWord (pinned_word r) m
-  pub proceeds : (hart : Hart) (a b : ℕ) → hart.mode ≡ M → Proceeds hart (pinned_word r) (bare_step hart (pinned_word r) m a b)
-  pub demands : (hart : Hart) (a b : ℕ) → hart.mode ≡ M → meets (pinned_demand r) (bare_step hart (pinned_word r) m a b).effect.trap ≡ true
-  pub met : (hart : Hart) (a b : ℕ) (others : List Effect) → hart.mode ≡ M → AreHandled (bare_step hart (pinned_word r) m a b).effect.trap others
-      → Meets r ((bare_step hart (pinned_word r) m a b).effect ∷ []) others
+pub record IsAskedBy (r : Request) (word : ℕ) (m : Option Decoded) : Type 0 where
+  pub quiet : IsQuietWord word m
+  pub proceeds : (hart : Hart) (a b : ℕ) → hart.mode ≡ M → Proceeds hart word (bare_step hart word m a b)
+  pub demands : (hart : Hart) (a b : ℕ) → hart.mode ≡ M → meets (demand_asked r) (bare_step hart word m a b).effect.trap ≡ true
+  pub met : (hart : Hart) (a b : ℕ) (others : List Effect) → hart.mode ≡ M → AreHandled (bare_step hart word m a b).effect.trap others
+      → Meets r ((bare_step hart word m a b).effect ∷ []) others
 
-abbrev pub IsAsked : Request → Type 0
-IsAsked r = IsAskedBy r (decoded (pinned_word r))
+abbrev pub IsAsked : Request → ℕ → Type 0
+IsAsked r word = IsAskedBy r word (decoded word)
 
 -- the step of a word tells the word
 has_word : (hart : Hart) (word : ℕ) (m : Option Decoded) (a b : ℕ) → IsQuietWord word m → (bare_step hart word m a b).effect.word ≡ Some word
 has_word hart word m a b quiet = ap (λ (e : Effect). e.word) (bare_quiet hart word m a b quiet.bare)
 
--- one of an instruction that goes on, with its pins
-goes_asked : (r : Request) (ins : Ins) (pins : Pins) (d : Decoded) → IsQuietWord (pinned_word r) (Some d) → IsPinned ins pins d → meets (pinned_demand r) None ≡ true
+-- one of an instruction that goes on, with operands that serve
+goes_asked : (r : Request) (ins : Ins) (pins : Pins) (d : Decoded) (word : ℕ) → IsQuietWord word (Some d) → d.ins ≡ ins → Serves ins pins None d.ops → meets (demand_asked r) None ≡ true
     → ((own others : List Effect) → IsStepOf ins pins own others → Meets r own others)
-    → ((hart : Hart) (a b : ℕ) → hart.mode ≡ M → GoesOn hart (bare_step hart (pinned_word r) (Some d) a b)) → IsAskedBy r (Some d)
-goes_asked r ins pins d quiet pinned demands is_met on = record {
+    → ((hart : Hart) (a b : ℕ) → hart.mode ≡ M → GoesOn hart (bare_step hart word (Some d) a b)) → IsAskedBy r word (Some d)
+goes_asked r ins pins d word quiet ins_is serves demands is_met on = record {
   quiet = quiet;
   proceeds = λ hart a b is_m. goes_on (on hart a b is_m);
-  demands = λ hart a b is_m. ap (meets (pinned_demand r)) (on hart a b is_m).trap ∙ demands;
+  demands = λ hart a b is_m. ap (meets (demand_asked r)) (on hart a b is_m).trap ∙ demands;
   met = λ hart a b others is_m handled. is_met _ others (record {
-    effect = (bare_step hart (pinned_word r) (Some d) a b).effect;
+    effect = (bare_step hart word (Some d) a b).effect;
     alone = refl;
     no_trap = (on hart a b is_m).trap;
     no_handler = subst (λ trap. AreHandled trap others) (on hart a b is_m).trap handled;
     d = d;
-    word = ap (λ m. m >>= decoded) (has_word hart (pinned_word r) (Some d) a b quiet) ∙ quiet.row;
-    pinned = pinned;
+    word = ap (λ m. m >>= decoded) (has_word hart word (Some d) a b quiet) ∙ quiet.row;
+    ins_is = ins_is;
+    serves = serves;
   });
 }
 
@@ -522,60 +407,26 @@ goes_asked r ins pins d quiet pinned demands is_met on = record {
 fit_small : (ins : Ins) (ops : Ops) → misfit (form_of ins) ops ≡ None → word_by ins ops < 2 ^ 32
 fit_small ins ops fits = packed_lt (form_of ins) (value_of ins) ops (value_masked ins) (all_fit (form_of ins) ops fits)
 
-asked_ins : (ins : Ins) (rd rs1 rs2 : Option ℕ) (imm : Option ℤ) (zero_rs1 : Bool) → InsParts ins rd rs1 rs2 imm zero_rs1
-    → IsAskedBy (a_plain (an_ins (named_ins ins) (bare_pins rd rs1 rs2 imm zero_rs1))) (Some (record { ins = ins; ops = pinned_ops (bare_pins rd rs1 rs2 imm zero_rs1) }))
-asked_ins ins rd rs1 rs2 imm zero_rs1 whole = goes_asked _ ins (bare_pins rd rs1 rs2 imm zero_rs1) d
+asked_ins : (ins : Ins) (pins : Pins) (ops : Ops) → class_of ins ≡ Computes → misfit (form_of ins) ops ≡ None → Serves ins pins None ops
+    → IsAskedBy (a_plain (an_ins (named_ins ins) pins)) (word_by ins ops) (Some (record { ins = ins; ops = ops }))
+asked_ins ins pins ops computes fits serves = goes_asked _ ins pins d (word_by ins ops)
     (record {
-      small = fit_small ins ops whole.fits;
-      row = encoded_decodes ins ops whole.fits;
-      bare = ap access_in whole.computes;
-      closed = ap (λ c. names_open c d) whole.computes;
+      small = fit_small ins ops fits;
+      row = encoded_decodes ins ops fits;
+      bare = ap access_in computes;
+      closed = ap (λ c. names_open c d) computes;
     })
-    (record {
-      ins = refl;
-      rd = if_pinned rd 0;
-      rs1 = if_pinned rs1 0;
-      zero_rs1 = zero_read (has_rs1 (form_of ins)) zero_rs1 rs1 whole.registers.rs1_is;
-      rs2 = if_pinned rs2 0;
-      imm = if_pinned imm (pos 0);
-    })
-    refl (λ own others met. met) (λ hart a b is_m. computes_on hart (word_by ins ops) d a b whole.computes)
+    refl serves refl (λ own others met. met) (λ hart a b is_m. computes_on hart (word_by ins ops) d a b computes)
   where
-    ops : Ops
-    ops = pinned_ops (bare_pins rd rs1 rs2 imm zero_rs1)
-
     d : Decoded
     d = record { ins = ins; ops = ops }
 
-fence_fits_at : (n : ℕ) → n < 256 → misfit I (record { rd = 0; rs1 = 0; rs2 = 0; imm = pos n; aqrl = 0 }) ≡ None
-fence_fits_at n small =
-    let test : ltb n 2048 ≡ true = grind (arith, nat_tests) in
-    rw test refl
-
-fence_fits : (rd rs1 rs2 : Option ℕ) (n : ℕ) (zero_rs1 : Bool) → FenceParts rd rs1 rs2 n → misfit I (pinned_ops (bare_pins rd rs1 rs2 (Some (pos n)) zero_rs1)) ≡ None
-fence_fits rd rs1 rs2 n zero_rs1 whole =
-    (λ i. misfit I (record { rd = whole.rd_is i; rs1 = whole.rs1_is i; rs2 = unwrap_or (whole.rs2_is i) 0; imm = pos n; aqrl = 0 })) ∙ fence_fits_at n whole.small
-
-asked_fence : (rd rs1 rs2 : Option ℕ) (n : ℕ) (zero_rs1 : Bool) → FenceParts rd rs1 rs2 n
-    → IsAskedBy (a_plain (an_ins (named_ins Fence) (bare_pins rd rs1 rs2 (Some (pos n)) zero_rs1))) (Some (record { ins = Fence; ops = pinned_ops (bare_pins rd rs1 rs2 (Some (pos n)) zero_rs1) }))
-asked_fence rd rs1 rs2 n zero_rs1 whole = goes_asked _ Fence (bare_pins rd rs1 rs2 (Some (pos n)) zero_rs1) d
+asked_fence : (pins : Pins) (ops : Ops) → misfit (form_of Fence) ops ≡ None → Serves Fence pins None ops
+    → IsAskedBy (a_plain (an_ins (named_ins Fence) pins)) (word_by Fence ops) (Some (record { ins = Fence; ops = ops }))
+asked_fence pins ops fits serves = goes_asked _ Fence pins d (word_by Fence ops)
     (record { small = fit_small Fence ops fits; row = encoded_decodes Fence ops fits; bare = refl; closed = refl })
-    (record {
-      ins = refl;
-      rd = if_pinned rd 0;
-      rs1 = if_pinned rs1 0;
-      zero_rs1 = λ is. whole.rs1_is;
-      rs2 = if_pinned rs2 0;
-      imm = refl;
-    })
-    refl (λ own others met. met) (λ hart a b is_m. fences_on hart (word_by Fence ops) d a b refl)
+    refl serves refl (λ own others met. met) (λ hart a b is_m. fences_on hart (word_by Fence ops) d a b refl)
   where
-    ops : Ops
-    ops = pinned_ops (bare_pins rd rs1 rs2 (Some (pos n)) zero_rs1)
-
-    fits : misfit I ops ≡ None
-    fits = fence_fits rd rs1 rs2 n zero_rs1 whole
-
     d : Decoded
     d = record { ins = Fence; ops = ops }
 
@@ -600,39 +451,78 @@ scratch_keeps file Sscratch value is = (refl, refl)
 scratch_keeps file Mscratch value is = (refl, refl)
 scratch_keeps file _ value is = absurd cc
 
--- what is written is a scratch register
-writes_scratch : (change : CsrChange) (csr : Csr) (ops : Ops) → may_change (ChangesCsr change) csr ops.rs1 ≡ true → writes change ops ≡ true → is_scratch csr ≡ true
-writes_scratch Swap csr ops may does = may
-writes_scratch Set csr ops may does = first_of (is_scratch csr) (eqb ops.rs1 0) may does
-writes_scratch Clear csr ops may does = first_of (is_scratch csr) (eqb ops.rs1 0) may does
+-- what is left of numbers by a test passes it
+among_kept : (f : ℕ → Bool) (xs : List ℕ) (r : ℕ) → is_among (filter f xs) r ≡ true → f r ≡ true
+among_kept f [] r e = absurd cc
+among_kept f (x ∷ xs) r e = of (f x) refl e (among_kept f xs r)
+  where
+    same : (t : Bool) → t ≡ (x == r) → f x ≡ true → (t || is_among (filter f xs) r) ≡ true → (is_among (filter f xs) r ≡ true → f r ≡ true) → f r ≡ true
+    same true at there e more = let is : x ≡ r = eqb-true x r (sym at) in ap f (sym is) ∙ there
+    same false at there e more = more e
 
-asked_csr : (csr : Csr) (ins : Ins) (rd rs1 rs2 : Option ℕ) (imm : Option ℤ) (zero_rs1 : Bool) → CsrParts csr ins rd rs1 rs2 imm zero_rs1
-    → IsAskedBy (a_plain (a_csr csr ins (bare_pins rd rs1 rs2 imm zero_rs1))) (Some (record { ins = ins; ops = csr_ops csr (bare_pins rd rs1 rs2 imm zero_rs1) }))
-asked_csr csr ins rd rs1 rs2 imm zero_rs1 whole = goes_asked _ ins (csr_pins csr (bare_pins rd rs1 rs2 imm zero_rs1)) d
+    of : (t : Bool) → t ≡ f x → is_among (cond t (x ∷ filter f xs) (filter f xs)) r ≡ true → (is_among (filter f xs) r ≡ true → f r ≡ true) → f r ≡ true
+    of true is e more = same (x == r) refl (sym is) e more
+    of false is e more = more e
+
+only_x0 : (r : ℕ) → is_among (0 ∷ []) r ≡ true → r ≡ 0
+only_x0 r e = of (0 == r) refl e
+  where
+    of : (t : Bool) → t ≡ (0 == r) → (t || false) ≡ true → r ≡ 0
+    of true is e = sym (eqb-true 0 r (sym is))
+    of false is e = absurd cc
+
+-- rs1 that is sure to be x0
+zero_where : (has zero_rs1 : Bool) (set : List ℕ) (pin : Option ℕ) (r : ℕ) → (zero_rs1 || is_it 0 pin) ≡ true → is_among (if_has (has && not zero_rs1) (operand set pin)).members r ≡ true → r ≡ 0
+zero_where true true set pin r sure among = only_x0 r among
+zero_where true false set None r sure among = absurd cc
+zero_where true false set (Some p) r sure among =
+    let here : 0 ≡ p = eqb-true 0 p sure in
+    let at : r ≡ p = eqb-true r p (among_kept (λ q. q == p) set r among) in omega (arith, here, at)
+zero_where false zero_rs1 set pin r sure among = only_x0 r among
+
+reads_x0 : (csr : Csr) (ins : Ins) (pins : Pins) (ops : Ops) → CsrParts csr ins pins → Serves ins (csr_pins csr pins) None ops → gives_x0 pins ≡ true → ops.rs1 ≡ 0
+reads_x0 csr ins pins ops whole serves sure =
+    zero_where (has_rs1 (form_of ins)) pins.zero_rs1 (allowed (csr_pins csr pins) None 0) pins.rs1 ops.rs1 sure
+    (ap (λ os. may_be os 1 ops.rs1) (sym (registers_by_form ins (csr_pins csr pins) None (no_fence_change (class_of ins) whole.change whole.row))) ∙ serves.rs1)
+
+only_scratch : (s z : Bool) (rs1 : ℕ) → (s || z) ≡ true → (z ≡ true → rs1 ≡ 0) → not (eqb rs1 0) ≡ true → s ≡ true
+only_scratch true z rs1 e sure does = refl
+only_scratch false true rs1 e sure does = absurd (let none : eqb rs1 0 ≡ true = eq-eqb rs1 0 (sure refl) in let no = ap not none in cc)
+only_scratch false false rs1 e sure does = absurd cc
+
+-- what is written is a scratch register
+writes_scratch : (change : CsrChange) (csr : Csr) (pins : Pins) (ops : Ops) → may_change (ChangesCsr change) csr pins ≡ true → (gives_x0 pins ≡ true → ops.rs1 ≡ 0) → writes change ops ≡ true → is_scratch csr ≡ true
+writes_scratch Swap csr pins ops may sure does = may
+writes_scratch Set csr pins ops may sure does = only_scratch (is_scratch csr) (gives_x0 pins) ops.rs1 may sure does
+writes_scratch Clear csr pins ops may sure does = only_scratch (is_scratch csr) (gives_x0 pins) ops.rs1 may sure does
+
+-- the number of the CSR stands in the immediate's place
+asked_csr_at : (csr : Csr) (ins : Ins) (pins : Pins) (ops : Ops) → CsrParts csr ins pins → misfit (form_of ins) ops ≡ None → Serves ins (csr_pins csr pins) None ops → ops ≡ record ops { imm = pos (csr_number csr) }
+    → IsAskedBy (a_plain (a_csr csr ins pins)) (word_by ins ops) (Some (record { ins = ins; ops = ops }))
+asked_csr_at csr ins pins ops whole fits serves numbered = subst (λ o. IsAskedBy (a_plain (a_csr csr ins pins)) (word_by ins o) (Some (record { ins = ins; ops = o }))) (sym numbered)
+    (goes_asked _ ins (csr_pins csr pins) d (word_by ins all)
     (record {
-      small = fit_small ins ops whole.fits;
-      row = encoded_decodes ins ops whole.fits;
+      small = fit_small ins all fit;
+      row = encoded_decodes ins all fit;
       bare = ap access_in whole.row;
       closed = ap (λ c. names_open c d) whole.row ∙ ap is_open_found (named csr) ∙ closed_named csr whole.named;
     })
-    (record {
-      ins = refl;
-      rd = if_pinned rd 0;
-      rs1 = if_pinned rs1 0;
-      zero_rs1 = zero_read (has_rs1 (form_of ins)) zero_rs1 rs1 whole.registers.rs1_is;
-      rs2 = if_pinned rs2 0;
-      imm = refl;
-    })
-    refl (λ own others met. met)
-    (λ hart a b is_m. changes_on hart (word_by ins ops) d a b whole.change csr is_m whole.row (named csr)
-    (λ does. scratch_open hart.csrs csr (writes_scratch whole.change csr ops whole.may does))
-    (λ does value. scratch_keeps hart.csrs csr value (writes_scratch whole.change csr ops whole.may does)))
+    refl (subst (Serves ins (csr_pins csr pins) None) numbered serves) refl (λ own others met. met)
+    (λ hart a b is_m. changes_on hart (word_by ins all) d a b whole.change csr is_m whole.row (named csr)
+    (λ does. scratch_open hart.csrs csr (scratch does))
+    (λ does value. scratch_keeps hart.csrs csr value (scratch does))))
   where
-    ops : Ops
-    ops = csr_ops csr (bare_pins rd rs1 rs2 imm zero_rs1)
+    all : Ops
+    all = record ops { imm = pos (csr_number csr) }
 
     d : Decoded
-    d = record { ins = ins; ops = ops }
+    d = record { ins = ins; ops = all }
+
+    fit : misfit (form_of ins) all ≡ None
+    fit = ap (misfit (form_of ins)) (sym numbered) ∙ fits
+
+    scratch : writes whole.change all ≡ true → is_scratch csr ≡ true
+    scratch does = writes_scratch whole.change csr pins all whole.may (reads_x0 csr ins pins ops whole serves) does
 
 -- ---- words of their own
 
@@ -665,7 +555,7 @@ sys_proceeds sys_mret hart a b may is_m = absurd may
 sys_proceeds sys_sret hart a b may is_m = absurd may
 sys_proceeds sys_sfence hart a b may is_m = goes_on (translation_fenced hart (sys_word sys_sfence) (bare_ins SfenceVma) a b is_m refl)
 
-asked_sys : (sys : SysWord) → IsMakeableSys sys → IsAskedBy (a_plain (a_sys sys)) (sys_ins sys)
+asked_sys : (sys : SysWord) → IsMakeableSys sys → IsAskedBy (a_plain (a_sys sys)) (sys_word sys) (sys_ins sys)
 asked_sys sys may = record {
   quiet = sys_quiet sys;
   proceeds = λ hart a b is_m. sys_proceeds sys hart a b may is_m;
@@ -680,43 +570,15 @@ asked_sys sys may = record {
 
 -- ---- all requests
 
-asked_by : (r : Request) (m : Option Decoded) → IsAskedBy r m → IsAsked r
-asked_by r m q = subst (IsAskedBy r) (sym q.quiet.row) q
+asked_by : (r : Request) (word given : ℕ) (m : Option Decoded) → word ≡ given → IsAskedBy r given m → IsAsked r word
+asked_by r word given m is q = subst (IsAsked r) (sym is) (subst (IsAskedBy r given) (sym q.quiet.row) q)
 
-asked_known : (r : Request) → IsKnown r → IsAsked r
-asked_known r (is_known_ins ins rd rs1 rs2 imm zero_rs1 whole) = asked_by r _ (asked_ins ins rd rs1 rs2 imm zero_rs1 whole)
-asked_known r (is_known_fence rd rs1 rs2 n zero_rs1 whole) = asked_by r _ (asked_fence rd rs1 rs2 n zero_rs1 whole)
-asked_known r (is_known_csr csr ins rd rs1 rs2 imm zero_rs1 whole) = asked_by r _ (asked_csr csr ins rd rs1 rs2 imm zero_rs1 whole)
-asked_known r (is_known_sys sys may) = asked_by r _ (asked_sys sys may)
+asked_known : (r : Request) (word : ℕ) → IsKnown r → IsWordFor (asked_word r) word → IsAsked r word
+asked_known r word (is_known_ins ins pins computes fits) w = asked_by r word _ _ w.word_is (asked_ins ins pins w.ops computes w.fits w.serves)
+asked_known r word (is_known_fence pins whole) w = asked_by r word _ _ w.word_is (asked_fence pins w.ops w.fits w.serves)
+asked_known r word (is_known_csr csr ins pins whole) w =
+    asked_by r word _ _ w.word_is (asked_csr_at csr ins pins w.ops whole w.fits w.serves (λ i. record w.ops { imm = w.serves.imm i }))
+asked_known r word (is_known_sys sys may) w = asked_by r word _ _ w (asked_sys sys may)
 
-pub asked : (r : Request) → IsMakeableRequest r → IsAsked r
-asked r makeable = asked_known r (known r makeable)
-
--- ---- its operands fit
-
-abbrev pub InsFits : InsChoice → Pins → Type 0
-InsFits (named_ins ins) pins = misfit (form_of ins) (pinned_ops pins) ≡ None
-InsFits (by_tree tree) pins = ⊥
-
-abbrev pub PlainFits : Plain → Type 0
-PlainFits (an_ins ins pins) = InsFits ins pins
-PlainFits (a_mem r) = ⊥
-PlainFits (a_jump r) = ⊥
-PlainFits (a_csr csr ins pins) = misfit (form_of ins) (csr_ops csr pins) ≡ None
-PlainFits (a_sys sys) = Unit {0}
-PlainFits (a_value value pins) = ⊥
-
-abbrev pub RequestFits : Request → Type 0
-RequestFits (a_plain p) = PlainFits p
-RequestFits (a_loop times counter body) = ⊥
-RequestFits (a_set tree path weight) = ⊥
-RequestFits (a_pick tree) = ⊥
-
-known_fits : (r : Request) → IsKnown r → RequestFits r
-known_fits r (is_known_ins ins rd rs1 rs2 imm zero_rs1 whole) = whole.fits
-known_fits r (is_known_fence rd rs1 rs2 n zero_rs1 whole) = fence_fits rd rs1 rs2 n zero_rs1 whole
-known_fits r (is_known_csr csr ins rd rs1 rs2 imm zero_rs1 whole) = whole.fits
-known_fits r (is_known_sys sys may) = tt
-
-pub fits : (r : Request) → IsMakeableRequest r → RequestFits r
-fits r makeable = known_fits r (known r makeable)
+pub asked : (r : Request) (word : ℕ) → IsMakeableRequest r → IsWordFor (asked_word r) word → IsAsked r word
+asked r word makeable w = asked_known r word (known r makeable) w

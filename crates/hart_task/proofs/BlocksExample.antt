@@ -11,7 +11,7 @@ keeps : KeepsRules job
 keeps = record {
   some = omega arith;
   most = omega arith;
-  harts = (record { plain = refl; some_pages = omega arith; most_pages = omega arith; room = omega arith; requests = ((record { whole = refl; alone = refl }, refl), tt) }, tt);
+  harts = (record { plain = refl; some_pages = omega arith; most_pages = omega arith; room = omega arith; requests = ((record { whole = refl; no_order = refl }, refl), tt) }, tt);
   rest = refl;
 }
 

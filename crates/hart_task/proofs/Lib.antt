@@ -2,7 +2,6 @@ pub mod Fixing
 pub mod Telling
 pub mod Bare
 pub mod Plainly
-pub mod Spelling
 pub mod Standing
 pub mod Held
 pub mod Going

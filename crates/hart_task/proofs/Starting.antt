@@ -17,10 +17,10 @@ use Rattle.hart_task.specs.Log.{events_of}
 use Rattle.trace_text.specs.Lines.{starting}
 use Rattle.hart_task.specs.OneRun.{IsAtEnd, RunsTo, all_lines}
 use Rattle.hart_task.specs.State.{start}
-use Rattle.hart_task.specs.Task.{IsLogOf, Stands, TaskSeen, phase_seen, state_of, words_made}
+use Rattle.hart_task.specs.Task.{IsLogOf, Stands, TaskSeen, phase_seen, state_of}
 use Rattle.hart_task.specs.declared.task.Phase.TheVariants as tasks
 use Rattle.hart_task.proofs.Begins.{plain_work}
-use Rattle.hart_task.proofs.Turns.{few_there}
+use Rattle.hart_task.proofs.Turns.{few_there, few_words}
 use Rattle.hart_task.proofs.Led.{csrs_plain}
 
 -- no part of the start reads the code pages and the template
@@ -67,7 +67,6 @@ stands_new work h pc csrs draws initial present placed ws keeps member at leaves
       initial = λ r. ap (λ (f : Registers). f r) nothing ∙ sym (ap (λ p. starting (all_lines (events_of p)) h r) no_events);
       stream = stream;
       few = omega (arith, drawn);
-      words = ap length no_words;
       events = omega arith;
       phase = tt;
     }
@@ -79,12 +78,12 @@ stands_new work h pc csrs draws initial present placed ws keeps member at leaves
 
 pub log_of : (work : Work) (t : TaskSeen) → KeepsRules work → Stands work t → t.phase ≡ tasks.Finished → IsLogOf work t.draws.seed t.hart.number t.log
 log_of work t keeps st is =
-    let words : length t.log.words ≡ t.begun + 1 = st.words ∙ ap (λ p. words_made p t.begun) is in
+    let words = few_words work t keeps st is in
     let few = few_there work t keeps st in
     record {
       run = record { end = state_of work t; run = st.run; finished = subst (λ p. IsAtEnd (phase_seen p)) (sym is) tt };
       words = refl;
       values = st.initial;
-      room = omega (arith, words, few.0);
+      room = omega (arith, words);
       few = few.1;
     }

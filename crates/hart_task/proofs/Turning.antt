@@ -27,7 +27,7 @@ use Rattle.hart_task.specs.Log.{events_of}
 use Rattle.hart_task.specs.OneRun.{RunsTo, all_lines}
 use Rattle.hart_task.specs.State.{HartState, entries_at_first, start}
 use Rattle.hart_task.specs.Stepping.{fixed_in, late_registers}
-use Rattle.hart_task.specs.Task.{IsInPhase, Stands, Steps, TaskSeen, Whose, came_by, done_by, fixed_task, late_of, late_one, of_end, of_handler, of_request, phase_by, phase_seen, script, state_of, stepped_task, task_event, told_lines, words_by, words_made}
+use Rattle.hart_task.specs.Task.{IsInPhase, Stands, Steps, TaskSeen, Whose, came_by, done_by, fixed_task, late_of, late_one, of_end, of_handler, of_request, phase_by, phase_seen, script, state_of, stepped_task, task_event, told_lines, words_by}
 use Rattle.hart_task.specs.Turn.{Turned, acted, acts, turned}
 use Rattle.hart_task.proofs.Begun.{starting_fixed, starting_kept}
 use Rattle.hart_task.proofs.Bare.{bare_quiet}
@@ -227,9 +227,8 @@ none_fixed_by h of_end effect (Some j) r = refl
 pub stands_behind : (work : Work) (t new : TaskSeen) (whose : Whose) (word place : ℕ) (words : ℕ → Option ℕ) (before now : List Placed → Type 0) → Stands work t → IsReady (state_of work t).hart
     → IsQuietWord word (decoded word) → Steps whose word t new place before now → ((i : ℕ) → words i ≡ slice_get (words_by whose t.log.words word) i)
     → ((heard : Heard) → turned work (state_of work t) heard ≡ Some (stepped_turn (state_of work t) whose word (decoded word) words))
-    → length (words_by whose t.log.words word) ≡ words_made (phase_by whose (stepped_so (state_of work t) word (decoded word)).effect.trap) t.begun
     → IsInPhase (phase_by whose (stepped_so (state_of work t) word (decoded word)).effect.trap) (stepped_so (state_of work t) word (decoded word)).hart.pc → Stands work new
-stands_behind work t new whose word place words before now st ready quiet did are turns made phase =
+stands_behind work t new whose word place words before now st ready quiet did are turns phase =
     subst (Stands work) (sym did.task) (record {
       run = subst (λ n. RunsTo work t.draws.seed n (events_of placed) (state_of work behind)) (sym same.number) run;
       member = subst (λ n. n < hart_count work) (sym same.number) st.member;
@@ -238,7 +237,6 @@ stands_behind work t new whose word place words before now st ready quiet did ar
       initial = λ r. initial r ∙ ap (λ n. starting (all_lines (events_of placed)) n r) (sym same.number);
       stream = st.stream ∙ ap (λ n. 2 * n + 1) (sym same.number);
       few = omega (arith, st.few, count, few_fixed t m);
-      words = made ∙ ap (λ (q : Effect). words_made (phase_by whose q.trap) t.begun) (sym same.effect_is);
       events = omega (arith, count, st.events);
       phase = subst (λ (q : Effect). IsInPhase (phase_by whose q.trap) new.hart.pc) (sym same.effect_is) (subst (IsInPhase (phase_by whose r.effect.trap)) (sym (ap (λ (q : Hart). q.pc) same.hart_is)) phase);
     })

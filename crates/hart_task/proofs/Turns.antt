@@ -2,7 +2,7 @@
 use Rattle.std.proofs.Common.{ℕ, zero, suc, ◌+◌, ◌-◌, ◌*◌, ◌^◌, ◌<◌, ◌≤◌, ◌≡◌, Bool, true, false, cond, eqb, eqb-true, List, [], ◌∷◌, ◌++◌, length, Option, Some, None, refl, sym, ap, subst, ◌∙◌, arith}
 use Rattle.std.specs.List.{list_any}
 use Rattle.std.specs.Option.{option_map_or}
-use Rattle.std.specs.Prelude.{IsTrue, drop, slice_get}
+use Rattle.std.specs.Prelude.{IsTrue, drop, is_some, slice_get}
 use Rattle.std.proofs.lemmas.Bool.Decides.{nat_tests}
 use Rattle.rv_fields.specs.declared.trap.Trap.{Trap}
 use Rattle.rv_fields.specs.Decode.{Decoded, decoded}
@@ -11,6 +11,8 @@ use Rattle.rv_fields.specs.Hart.{updated}
 use Rattle.rv_fields.specs.Memory.{in_ram}
 use Rattle.rv_fields.specs.Step.{Stepped}
 use Rattle.rv_fields.proofs.Opened.{step_leaves}
+use Rattle.choice_tree.specs.Draws.{Draws}
+use Rattle.region_plan.specs.declared.request.Request as code
 use Rattle.region_plan.specs.Plan.{Work}
 use Rattle.region_plan.specs.Request.{Request}
 use Rattle.region_plan.specs.Rules.{IsMakeableRequest, KeepsRules}
@@ -20,29 +22,28 @@ use Rattle.boot_words.specs.Layout.{m_handler_at}
 use Rattle.trace_text.specs.Lines.{Line, done, found}
 use Rattle.world_face.specs.Events.{Placed}
 use Rattle.hart_task.specs.Acts.{Fixing, fixing_lines, step_line}
-use Rattle.hart_task.specs.Asking.{word_asked}
+use Rattle.hart_task.specs.Asking.{IsWordFor, asked_word, is_served, worded}
 use Rattle.hart_task.specs.Bus.{word_seen}
 use Rattle.hart_task.specs.Heard.{Heard}
 use Rattle.hart_task.specs.Log.{events_of}
 use Rattle.hart_task.specs.Plain.{IsPlainFor}
 use Rattle.hart_task.specs.Schedule.{is_ending}
-use Rattle.hart_task.specs.State.{HartState, index_of, is_done, making as in_making}
-use Rattle.hart_task.specs.Task.{IsInPhase, IsTurn, Stands, Steps, TaskSeen, Whose, came_by, done_by, events_left, finished, fixed_task, late_of, most_events, of_end, of_handler, of_request, phase_by, phase_left, phase_seen, script, state_of, task_event, told_lines, words_made}
+use Rattle.hart_task.specs.State.{HartState, index_of}
+use Rattle.hart_task.specs.Task.{IsInPhase, IsTurn, Stands, Steps, TaskSeen, Whose, begun_phase, came_by, done_by, events_left, finished, fixed_task, late_of, most_events, of_end, of_handler, of_request, phase_by, phase_left, phase_seen, script, state_of, task_event, told_lines}
 use Rattle.hart_task.specs.declared.log.Turned.TheVariants as turned
 use Rattle.hart_task.specs.declared.task.Handling.{Handling}
 use Rattle.hart_task.specs.declared.task.Making.{Making}
-use Rattle.hart_task.specs.declared.task.Phase as task
 use Rattle.hart_task.specs.declared.task.Phase.TheVariants as tasks
 use Rattle.hart_task.specs.Turn as machine
 use Rattle.hart_task.specs.Turn.{end_word}
 use Rattle.hart_task.proofs.Bare.{end_decoded}
-use Rattle.hart_task.proofs.Begins.{IsAsked, asked, demand_seen_is, pinned_word, word_seen_is}
+use Rattle.hart_task.proofs.Begins.{IsAsked, asked}
 use Rattle.hart_task.proofs.Found.{handler_word}
 use Rattle.hart_task.proofs.InHandler.{handler_ins, handler_quiet}
-use Rattle.hart_task.proofs.Led.{IsBehind, IsBetween, IsHandling, IsLed, IsMember, IsUnderWay, at_rest_there, end_quiet, ends_so, found_on, found_so, handled_there, is_between, is_handling, led, led_few, made_behind, made_so, making_word, makes_at, ready_in_trap, ready_in_window, stepped_so, stepped_turn, under_way, words_made_at}
+use Rattle.hart_task.proofs.Led.{HasMade, IsBehind, IsBetween, IsHandling, IsLed, IsMember, IsUnderWay, at_end_there, at_rest_there, end_quiet, ends_so, few_made, found_on, found_so, handled_there, is_between, is_handling, led, led_few, made_behind, made_so, makes_at, ready_in_trap, ready_in_window, stepped_so, stepped_turn, under_way, words_made_at}
 use Rattle.hart_task.proofs.Makes.{IsQuietWord, index_is}
 use Rattle.hart_task.proofs.Plainly.{IsReady, bare_plainly}
-use Rattle.hart_task.proofs.Turning.{length_more, stands_behind, words_after}
+use Rattle.hart_task.proofs.Turning.{stands_behind, words_after}
 
 -- ---- where a hart stands that isn't finished
 
@@ -57,7 +58,8 @@ pub few_there : (work : Work) (t : TaskSeen) → KeepsRules work → Stands work
 few_there work t keeps st =
     let few = led_few t.hart.number (state_of work t) (led_there work t keeps st) in (few.0, omega (arith, few.0, few.1))
 
-pub few_drawn : (work : Work) (t : TaskSeen) → KeepsRules work → Stands work t → t.draws.drawn + 2 < 2 ^ 64 - 1
+-- the words of an event more can be drawn
+pub few_drawn : (work : Work) (t : TaskSeen) → KeepsRules work → Stands work t → t.draws.drawn + 4 < 2 ^ 64 - 1
 few_drawn work t keeps st = let few = few_there work t keeps st in omega (arith, st.few, few.1)
 
 none_left : {A : Type 0} (xs : List A) (i : ℕ) → slice_get xs i ≡ None → drop i xs ≡ []
@@ -66,45 +68,66 @@ none_left [] (suc i) e = refl
 none_left (x ∷ xs) zero e = absurd cc
 none_left (x ∷ xs) (suc i) e = none_left xs i e
 
+-- a list with so many members, and none behind them
+words_end : (ws : List ℕ) (made : ℕ) → ((i : ℕ) → i < made → is_some (slice_get ws i) ≡ true) → ((i : ℕ) → made ≤ i → slice_get ws i ≡ None) → length ws ≡ made
+words_end [] zero full free = refl
+words_end [] (suc n) full free = absurd (let no : false ≡ true = full 0 (omega arith) in cc)
+words_end (w ∷ ws) zero full free = absurd (let no : Some w ≡ None = free 0 (omega arith) in cc)
+words_end (w ∷ ws) (suc n) full free = ap suc (words_end ws n (λ i low. full (suc i) (omega (arith, low))) (λ i late. free (suc i) (omega (arith, late))))
+
+-- the log has as many words as were made
+pub words_counted : (work : Work) (t : TaskSeen) (h made most : ℕ) → HasMade h made most (state_of work t) → length t.log.words ≡ made
+words_counted work t h made most has = words_end t.log.words made has.full has.free
+
 pub between_there : (work : Work) (t : TaskSeen) (items : List ScriptItem) → KeepsRules work → Stands work t → t.phase ≡ tasks.Between → drop t.begun (script work t.hart.number) ≡ items
-    → IsBetween t.hart.number t.begun items (state_of work t)
+    → (made : ℕ) × IsBetween t.hart.number t.begun made items (state_of work t)
 between_there work t items keeps st is left = at_rest_there t.hart.number items (state_of work t) (led_there work t keeps st) (ap phase_seen is) left
 
-making_there : (work : Work) (t : TaskSeen) (m : Making) → KeepsRules work → Stands work t → t.phase ≡ tasks.Making m
-    → IsMakeableRequest (request_seen m.request) × ((items : List ScriptItem) × IsUnderWay t.hart.number m.k (request_seen m.request) items (state_of work t))
-making_there work t m keeps st is =
-    let makeable : IsMakeableRequest (request_seen m.request) = subst (λ p. IsInPhase p t.hart.pc) is st.phase in
-    let phase : (state_of work t).phase ≡ making_word m.k (request_seen m.request) =
-    ap phase_seen is ∙ (λ i. in_making (record { k = m.k; words = sym (word_seen_is m.request) i ∷ []; sequel = is_done (sym (demand_seen_is m.request) i) })) in (
-      makeable,
-      under_way t.hart.number m.k (request_seen m.request) (state_of work t) (led_there work t keeps st) phase makeable,
-    )
+-- a request that makes its word: it can be made, and the word is one for it
+pub record IsMaking (work : Work) (t : TaskSeen) (m : Making) : Type 0 where
+  pub makeable : IsMakeableRequest (request_seen m.request)
+  pub is_for : IsWordFor (asked_word (request_seen m.request)) m.word
+  pub made : ℕ
+  pub items : List ScriptItem
+  pub at : IsUnderWay t.hart.number m.k made (request_seen m.request) m.word items (state_of work t)
 
-handling_there : (work : Work) (t : TaskSeen) (g : Handling) → KeepsRules work → Stands work t → t.phase ≡ tasks.Handling g
-    → (items : List ScriptItem) × IsHandling t.hart.number g.k g.next items (state_of work t)
+making_there : (work : Work) (t : TaskSeen) (m : Making) → KeepsRules work → Stands work t → t.phase ≡ tasks.Making m → IsMaking work t m
+making_there work t m keeps st is =
+    let in_it : IsMakeableRequest (request_seen m.request) × IsWordFor (asked_word (request_seen m.request)) m.word = subst (λ p. IsInPhase p t.hart.pc) is st.phase in
+    let there = under_way t.hart.number m.k (request_seen m.request) m.word (state_of work t) (led_there work t keeps st) (ap phase_seen is) in_it.0 in_it.1 in
+    record { makeable = in_it.0; is_for = in_it.1; made = there.0; items = there.1; at = there.2 }
+
+-- one whose handler is stepped
+pub record IsInHandling (work : Work) (t : TaskSeen) (g : Handling) : Type 0 where
+  pub made : ℕ
+  pub items : List ScriptItem
+  pub at : IsHandling t.hart.number g.k made g.next items (state_of work t)
+
+handling_there : (work : Work) (t : TaskSeen) (g : Handling) → KeepsRules work → Stands work t → t.phase ≡ tasks.Handling g → IsInHandling work t g
 handling_there work t g keeps st is =
     let there = handled_there t.hart.number g.k (state_of work t) (led_there work t keeps st) (ap phase_seen is) in
     let at : t.hart.pc ≡ m_handler_at + 4 * g.next = subst (λ p. IsInPhase p t.hart.pc) is st.phase in
-    let pc = there.2.trap.at.pc in
-    let same : there.0 ≡ g.next = omega (arith, at, pc) in (there.1, subst (λ n. IsHandling t.hart.number g.k n there.1 (state_of work t)) same there.2)
+    let pc = there.3.trap.at.pc in
+    let same : there.1 ≡ g.next = omega (arith, at, pc) in
+    record { made = there.0; items = there.2; at = subst (λ n. IsHandling t.hart.number g.k there.0 n there.2 (state_of work t)) same there.3 }
 
 -- ---- it is ready for a step
 
 ready_between : (work : Work) (t : TaskSeen) → KeepsRules work → Stands work t → t.phase ≡ tasks.Between → IsReady (state_of work t).hart
 ready_between work t keeps st is =
-    let at = between_there work t _ keeps st is refl in
-    let room = at.ahead.room in
-    ready_in_window work t.hart.number t.begun (state_of work t) (member_of work t keeps st) (omega (arith, room)) at.window
+    let there = between_there work t _ keeps st is refl in
+    ready_in_window work t.hart.number there.0 (state_of work t) (member_of work t keeps st) (few_made t.begun there.0 _ there.1.behind there.1.ahead.room) there.1.window
+
+few_making : (work : Work) (t : TaskSeen) (m : Making) (there : IsMaking work t m) → there.made ≤ 1000
+few_making work t m there = few_made (m.k + 1) there.made _ (let behind = there.at.behind in omega (arith, behind)) there.at.ahead.room
 
 ready_making : (work : Work) (t : TaskSeen) (m : Making) → KeepsRules work → Stands work t → t.phase ≡ tasks.Making m → IsReady (state_of work t).hart
 ready_making work t m keeps st is =
-    let at = (making_there work t m keeps st is).1 in
-    let room = at.1.ahead.room in
-    ready_in_window work t.hart.number m.k (state_of work t) (member_of work t keeps st) (omega (arith, room)) at.1.window
+    let there = making_there work t m keeps st is in ready_in_window work t.hart.number there.made (state_of work t) (member_of work t keeps st) (few_making work t m there) there.at.window
 
 ready_handling : (work : Work) (t : TaskSeen) (g : Handling) → KeepsRules work → Stands work t → t.phase ≡ tasks.Handling g → IsReady (state_of work t).hart
 ready_handling work t g keeps st is =
-    let at = handling_there work t g keeps st is in ready_in_trap t.hart.number g.k g.next (state_of work t) at.1.trap
+    let there = handling_there work t g keeps st is in ready_in_trap t.hart.number there.made g.next (state_of work t) there.at.trap
 
 -- What a step of the code asks for, with x0 among the registers that have a value.
 pub record MayStep (t : TaskSeen) (word : ℕ) : Type 0 where
@@ -118,49 +141,43 @@ may_step work t word m keeps st ready is_zero quiet = record {
   plain = bare_plainly t.hart word m (record { mode = ready.mode; in_it = ready.in_it; aligned = ready.aligned; small = ready.small }) quiet.small quiet.row quiet.bare;
   zero = st.held 0 0 is_zero;
   in_it = ready.in_it;
-  few = few_drawn work t keeps st;
+  few = let few = few_drawn work t keeps st in omega (arith, few);
 }
 
-pub may_make : (work : Work) (t : TaskSeen) (m : Making) → KeepsRules work → Stands work t → t.phase ≡ tasks.Making m → MayStep t (word_asked m.request)
+pub may_make : (work : Work) (t : TaskSeen) (m : Making) → KeepsRules work → Stands work t → t.phase ≡ tasks.Making m → MayStep t m.word
 may_make work t m keeps st is =
     let there = making_there work t m keeps st is in
-    let q = asked (request_seen m.request) there.0 in
-    subst (MayStep t) (word_seen_is m.request) (may_step work t (pinned_word (request_seen m.request)) _ keeps st (ready_making work t m keeps st is) there.1.1.window.so_far.zero q.quiet)
+    let q = asked (request_seen m.request) m.word there.makeable there.is_for in
+    may_step work t m.word _ keeps st (ready_making work t m keeps st is) there.at.window.so_far.zero q.quiet
 
 pub may_handle : (work : Work) (t : TaskSeen) (g : Handling) → KeepsRules work → Stands work t → t.phase ≡ tasks.Handling g → (g.next < 6) × MayStep t (handler_word g.next)
 may_handle work t g keeps st is =
     let there = handling_there work t g keeps st is in
-    let early = there.1.trap.early in (early, may_step work t (handler_word g.next) _ keeps st (ready_handling work t g keeps st is) there.1.trap.so_far.zero (handler_quiet g.next early))
+    let early = there.at.trap.early in (early, may_step work t (handler_word g.next) _ keeps st (ready_handling work t g keeps st is) there.at.trap.so_far.zero (handler_quiet g.next early))
 
 pub may_end : (work : Work) (t : TaskSeen) → KeepsRules work → Stands work t → t.phase ≡ tasks.Between → MayStep t end_word
 may_end work t keeps st is =
-    may_step work t end_word _ keeps st (ready_between work t keeps st is) (between_there work t _ keeps st is refl).window.so_far.zero end_quiet
+    may_step work t end_word _ keeps st (ready_between work t keeps st is) (between_there work t _ keeps st is refl).1.window.so_far.zero end_quiet
 
 -- ---- the task behind it
 
 -- a word more of the window
-words_more : (work : Work) (t : TaskSeen) (word made : ℕ) → index_of work (state_of work t) ≡ made → made ≡ length t.log.words
+words_more : (work : Work) (t : TaskSeen) (word made : ℕ) → index_of work (state_of work t) ≡ made → length t.log.words ≡ made
     → (i : ℕ) → words_made_at work (state_of work t) word i ≡ slice_get (t.log.words ++ word ∷ []) i
-words_more work t word made index count i = ap (λ p. updated (λ j. slice_get t.log.words j) p (Some word) i) (index ∙ count) ∙ words_after t.log.words word i
+words_more work t word made index count i = ap (λ p. updated (λ j. slice_get t.log.words j) p (Some word) i) (index ∙ sym count) ∙ words_after t.log.words word i
 
--- what a step leaves, in the phase that it leads to
-record Leaves (words : ℕ) (phase : task.Phase) (begun pc : ℕ) : Type 0 where
-  words_are : words ≡ words_made phase begun
-  is_in : IsInPhase phase pc
-
-leaves_made : (h k : ℕ) (items : List ScriptItem) (trap : Option Trap) (s : HartState) (words begun : ℕ) → IsBehind h k items trap s → words ≡ begun → Leaves words (phase_by (of_request k) trap) begun s.hart.pc
-leaves_made h k items trap s words begun (is_between none at) are =
-    subst (λ m. Leaves words (phase_by (of_request k) m) begun s.hart.pc) (sym none) (record { words_are = are; is_in = tt })
-leaves_made h k items trap s words begun (is_handling t some at) are =
-    subst (λ m. Leaves words (phase_by (of_request k) m) begun s.hart.pc) (sym some) (record { words_are = are; is_in = at.trap.at.pc })
+-- the phase to which a step leads
+in_behind : (h k made : ℕ) (items : List ScriptItem) (trap : Option Trap) (s : HartState) → IsBehind h k made items trap s → IsInPhase (phase_by (of_request k) trap) s.hart.pc
+in_behind h k made items trap s (is_between none at) = subst (λ m. IsInPhase (phase_by (of_request k) m) s.hart.pc) (sym none) tt
+in_behind h k made items trap s (is_handling t some at) = subst (λ m. IsInPhase (phase_by (of_request k) m) s.hart.pc) (sym some) at.trap.at.pc
 
 pub stands_made : (work : Work) (t new : TaskSeen) (m : Making) (place : ℕ) (before now : List Placed → Type 0) → KeepsRules work → Stands work t → t.phase ≡ tasks.Making m
-    → Steps (of_request m.k) (word_asked m.request) t new place before now → Stands work new
+    → Steps (of_request m.k) m.word t new place before now → Stands work new
 stands_made work t new m place before now keeps st is did =
-    stands_behind work t new (of_request m.k) word place (words_made_at work s word) before now st (ready_making work t m keeps st is) q.quiet
-    (subst (λ w. Steps (of_request m.k) w t new place before now) (sym (word_seen_is m.request)) did)
-    (words_more work t word m.k (index_is work s m.k (makes_at work h m.k s member few under.window)) count)
-    (λ heard. made_so work h m.k r there.1.0 s heard q member under) leaves.words_are leaves.is_in
+    stands_behind work t new (of_request m.k) m.word place (words_made_at work s m.word) before now st (ready_making work t m keeps st is) q.quiet did
+    (words_more work t m.word there.made (index_is work s there.made (makes_at work h there.made s member (few_making work t m there) there.at.window)) (words_counted work t h there.made _ there.at.window.so_far))
+    (λ heard. made_so work h m.k there.made r m.word there.items s heard q member there.at)
+    (in_behind h m.k there.made there.items _ _ (made_behind work h m.k there.made r m.word there.items s q member there.at))
   where
     h : ℕ
     h = t.hart.number
@@ -171,48 +188,30 @@ stands_made work t new m place before now keeps st is did =
     s : HartState
     s = state_of work t
 
-    word : ℕ
-    word = pinned_word r
-
     member : IsMember work h
     member = member_of work t keeps st
 
-    there : IsMakeableRequest r × ((items : List ScriptItem) × IsUnderWay h m.k r items s)
+    there : IsMaking work t m
     there = making_there work t m keeps st is
 
-    under : IsUnderWay h m.k r there.1.0 s
-    under = there.1.1
+    q : IsAsked r m.word
+    q = asked r m.word there.makeable there.is_for
 
-    q : IsAsked r
-    q = asked r there.0
-
-    few : m.k ≤ 1000
-    few = let room = under.ahead.room in omega (arith, room)
-
-    made : length t.log.words ≡ t.begun - 1
-    made = st.words ∙ ap (λ p. words_made p t.begun) is
-
-    count : m.k ≡ length t.log.words
-    count = omega (arith, made, under.count)
-
-    leaves : Leaves (length (t.log.words ++ word ∷ [])) (phase_by (of_request m.k) (stepped_so s word (decoded word)).effect.trap) t.begun (stepped_so s word (decoded word)).hart.pc
-    leaves = leaves_made h m.k there.1.0 _ _ _ t.begun (made_behind work h m.k r there.1.0 s q member under) (omega (arith, length_more t.log.words word, made, under.count))
-
-leaves_handled : (work : Work) (h k i : ℕ) (items : List ScriptItem) (s : HartState) (words begun : ℕ) → IsMember work h → IsHandling h k i items s → words ≡ begun
-    → let r : Stepped = stepped_so s (handler_word i) (Some (handler_ins i)) in Leaves words (phase_by (of_handler k i) r.effect.trap) begun r.hart.pc
-leaves_handled work h k i items s words begun is at are = of (eqb i 5) refl
+in_handled : (work : Work) (h k made i : ℕ) (items : List ScriptItem) (s : HartState) → IsMember work h → IsHandling h k made i items s
+    → let r : Stepped = stepped_so s (handler_word i) (Some (handler_ins i)) in IsInPhase (phase_by (of_handler k i) r.effect.trap) r.hart.pc
+in_handled work h k made i items s is at = of (eqb i 5) refl
   where
     r : Stepped
     r = stepped_so s (handler_word i) (Some (handler_ins i))
 
-    of : (t : Bool) → t ≡ eqb i 5 → Leaves words (cond t tasks.Between (tasks.Handling (record { k = k; next = i + 1 }))) begun r.hart.pc
-    of true e = record { words_are = are; is_in = tt }
-    of false e = record { words_are = are; is_in = (found_on work h k i items s is (let early = at.trap.early in grind (arith, nat_tests)) at).trap.at.pc }
+    of : (t : Bool) → t ≡ eqb i 5 → IsInPhase (cond t tasks.Between (tasks.Handling (record { k = k; next = i + 1 }))) r.hart.pc
+    of true e = tt
+    of false e = (found_on work h k made i items s is (let early = at.trap.early in grind (arith, nat_tests)) at).trap.at.pc
 
 pub stands_handled : (work : Work) (t new : TaskSeen) (g : Handling) (place : ℕ) (before now : List Placed → Type 0) → KeepsRules work → Stands work t → t.phase ≡ tasks.Handling g
     → Steps (of_handler g.k g.next) (handler_word g.next) t new place before now → Stands work new
 stands_handled work t new g place before now keeps st is did =
-    stands_behind work t new (of_handler g.k g.next) word place s.words before now st (ready_handling work t g keeps st is) known.0 did (λ i. refl) known.1 known.2.words_are known.2.is_in
+    stands_behind work t new (of_handler g.k g.next) word place s.words before now st (ready_handling work t g keeps st is) known.0 did (λ i. refl) known.1 known.2
   where
     h : ℕ
     h = t.hart.number
@@ -223,34 +222,31 @@ stands_handled work t new g place before now keeps st is did =
     word : ℕ
     word = handler_word g.next
 
-    there : (items : List ScriptItem) × IsHandling h g.k g.next items s
+    there : IsInHandling work t g
     there = handling_there work t g keeps st is
 
     quiet : IsQuietWord word (Some (handler_ins g.next))
-    quiet = handler_quiet g.next there.1.trap.early
-
-    made : length t.log.words ≡ t.begun
-    made = st.words ∙ ap (λ p. words_made p t.begun) is
+    quiet = handler_quiet g.next there.at.trap.early
 
     -- of the word by its row
     Known : Option Decoded → Type 0
     Known m = let r : Stepped = stepped_so s word m in
         IsQuietWord word m × ((heard : Heard) → machine.turned work s heard ≡ Some (stepped_turn s (of_handler g.k g.next) word m s.words))
-        × Leaves (length t.log.words) (phase_by (of_handler g.k g.next) r.effect.trap) t.begun r.hart.pc
+        × IsInPhase (phase_by (of_handler g.k g.next) r.effect.trap) r.hart.pc
 
     known : Known (decoded word)
     known = subst Known (sym quiet.row) (
       quiet,
-      λ heard. found_so work h g.k g.next there.0 s heard (member_of work t keeps st) there.1,
-      leaves_handled work h g.k g.next there.0 s (length t.log.words) t.begun (member_of work t keeps st) there.1 made,
+      λ heard. found_so work h g.k there.made g.next there.items s heard (member_of work t keeps st) there.at,
+      in_handled work h g.k there.made g.next there.items s (member_of work t keeps st) there.at,
     )
 
 pub stands_ended : (work : Work) (t new : TaskSeen) (place : ℕ) (before now : List Placed → Type 0) → KeepsRules work → Stands work t → t.phase ≡ tasks.Between
     → slice_get (script work t.hart.number) t.begun ≡ None → Steps of_end end_word t new place before now → Stands work new
 stands_ended work t new place before now keeps st is none did =
     stands_behind work t new of_end end_word place (words_made_at work s end_word) before now st (ready_between work t keeps st is) known.0 did
-    (words_more work t end_word t.begun (index_is work s t.begun (makes_at work h t.begun s member few at.window)) (sym made))
-    known.1 (omega (arith, made, length_more t.log.words end_word)) tt
+    (words_more work t end_word made (index_is work s made (makes_at work h made s member few at.window)) (words_counted work t h made _ at.window.so_far))
+    known.1 tt
   where
     h : ℕ
     h = t.hart.number
@@ -261,21 +257,30 @@ stands_ended work t new place before now keeps st is none did =
     member : IsMember work h
     member = member_of work t keeps st
 
-    at : IsBetween h t.begun [] s
-    at = between_there work t [] keeps st is (none_left (script work h) t.begun none)
+    there : (made : ℕ) × IsBetween h t.begun made [] s
+    there = between_there work t [] keeps st is (none_left (script work h) t.begun none)
 
-    few : t.begun ≤ 1000
-    few = let room = at.ahead.room in omega (arith, room)
+    made : ℕ
+    made = there.0
 
-    made : length t.log.words ≡ t.begun
-    made = st.words ∙ ap (λ p. words_made p t.begun) is
+    at : IsBetween h t.begun made [] s
+    at = there.1
+
+    few : made ≤ 1000
+    few = few_made t.begun made _ at.behind at.ahead.room
 
     -- of the word by its row
     Known : Option Decoded → Type 0
     Known m = IsQuietWord end_word m × ((heard : Heard) → machine.turned work s heard ≡ Some (stepped_turn s of_end end_word m (words_made_at work s end_word)))
 
     known : Known (decoded end_word)
-    known = subst Known (sym end_decoded) (end_quiet, λ heard. ends_so work h t.begun s heard member at)
+    known = subst Known (sym end_decoded) (end_quiet, λ heard. ends_so work h t.begun made s heard member at)
+
+-- a finished task has no more words than this
+pub few_words : (work : Work) (t : TaskSeen) → KeepsRules work → Stands work t → t.phase ≡ tasks.Finished → length t.log.words ≤ 1001
+few_words work t keeps st is =
+    let there = at_end_there t.hart.number (state_of work t) (led_there work t keeps st) (ap phase_seen is) in
+    let count = words_counted work t t.hart.number (there.0 + 1) _ there.2 in omega (arith, count, there.1)
 
 -- ---- what a step leaves of the task
 
@@ -333,6 +338,13 @@ handled_left k next trap early = of (eqb next 5) refl
     of : (t : Bool) → t ≡ eqb next 5 → phase_left (cond t tasks.Between (tasks.Handling (record { k = k; next = next + 1 }))) < 7 - next
     of true e = let last : next ≡ 5 = eqb-true next 5 (sym e) in omega (arith, last)
     of false e = omega (arith, early)
+
+pub begun_left : (r : code.Request) (k : ℕ) (draws : Draws) → phase_left (begun_phase r k draws) ≤ 8
+begun_left r k draws = of (is_served (asked_word (request_seen r)))
+  where
+    of : (served : Bool) → phase_left (cond served (tasks.Making (record { k = k; request = r; word = (worded (asked_word (request_seen r)) draws).word })) tasks.Between) ≤ 8
+    of true = omega arith
+    of false = omega arith
 
 pub nearer_behind : (work : Work) (t new : TaskSeen) (whose : Whose) (word place : ℕ) (before now : List Placed → Type 0) (did : Steps whose word t new place before now)
     → phase_left (phase_by whose did.effect.trap) < phase_left t.phase → events_left work new < events_left work t

@@ -1,14 +1,14 @@
 -- What a reader wants to know of a hart's lines: each request has one block, in the template's order. It is done, and then the
 -- block meets it, or it is refused, and then the cause holds.
-use Rattle.std.specs.Prelude.{ℕ, ◌≡◌, ◌+◌, ◌<◌, pos, true, List, [], ◌∷◌, ◌++◌, ◌*◌, length, map, Option, Some, None, IfSome}
+use Rattle.std.specs.Prelude.{ℕ, ◌≡◌, ◌+◌, ◌<◌, false, List, [], ◌∷◌, ◌++◌, ◌*◌, length, map, Option, Some, None}
 use Rattle.std.specs.List.{AllByRecursion, filter_map, range_with_len}
-use Rattle.rv_fields.specs.declared.csr.Csr.{Csr}
 use Rattle.rv_fields.specs.declared.row_table.Ins.{Ins}
 use Rattle.rv_fields.specs.declared.trap.Trap.{Trap}
 use Rattle.rv_fields.specs.Attempt.{◌>>=◌}
-use Rattle.rv_fields.specs.Csr.{csr_number}
 use Rattle.rv_fields.specs.Decode.{Decoded, decoded}
 use Rattle.rv_fields.specs.Effect.{Effect}
+use Rattle.operand_solver.specs.Operands.{Serves}
+use Rattle.region_plan.specs.Pinned.{csr_pins}
 use Rattle.region_plan.specs.Plan.{Work}
 use Rattle.region_plan.specs.Request.{InsChoice, Pins, Plain, Request, a_csr, a_jump, a_loop, a_mem, a_pick, a_plain, a_set, a_sys, a_value, an_ins, by_tree, named_ins}
 use Rattle.region_plan.specs.Script.{ScriptItem, cost}
@@ -17,21 +17,13 @@ use Rattle.trace_fields.specs.declared.request.Cause.TheVariants.{EmptyChoice, B
 use Rattle.trace_text.specs.Lines.{Line, request, picked, weighed, fixed, given, settled, touched, made, found, ending, done, refused, effects_of}
 use Rattle.boot_words.specs.Layout.{m_handler_at, window_words}
 use Rattle.hart_task.specs.Acts.{request_kind}
+use Rattle.hart_task.specs.Asking.{asked_word, is_served}
 use Rattle.hart_task.specs.Beginning.{sys_word}
 use Rattle.hart_task.specs.Turn.{end_word}
 
 -- ---- done
 
--- the word is the instruction, and each pin holds
-pub record IsPinned (wanted : Ins) (pins : Pins) (d : Decoded) : Type 0 where
-  pub ins : d.ins ≡ wanted
-  pub rd : IfSome pins.rd (λ r. d.ops.rd ≡ r)
-  pub rs1 : IfSome pins.rs1 (λ r. d.ops.rs1 ≡ r)
-  pub zero_rs1 : pins.zero_rs1 ≡ true → d.ops.rs1 ≡ 0
-  pub rs2 : IfSome pins.rs2 (λ r. d.ops.rs2 ≡ r)
-  pub imm : IfSome pins.imm (λ i. d.ops.imm ≡ i)
-
--- one step of the instruction that is named, without a trap, and none that is found
+-- one step of the instruction that is named, with operands that serve, without a trap, and none that is found
 pub record IsStepOf (ins : Ins) (pins : Pins) (own others : List Effect) : Type 0 where
   pub effect : Effect
   pub alone : own ≡ effect ∷ []
@@ -39,15 +31,12 @@ pub record IsStepOf (ins : Ins) (pins : Pins) (own others : List Effect) : Type 
   pub no_handler : others ≡ []
   pub d : Decoded
   pub word : (effect.word >>= decoded) ≡ Some d
-  pub pinned : IsPinned ins pins d
+  pub ins_is : d.ins ≡ ins
+  pub serves : Serves ins pins None d.ops
 
 abbrev pub MeetsIns : InsChoice → Pins → List Effect → List Effect → Type 0
 MeetsIns (named_ins ins) pins own others = IsStepOf ins pins own others
 MeetsIns (by_tree tree) pins own others = ⊥
-
--- the number of a CSR stands in the immediate's place
-abbrev pub csr_pins : Csr → Pins → Pins
-csr_pins csr pins = record pins { imm = Some (pos (csr_number csr)) }
 
 -- the addresses of the handler's words
 abbrev pub handler_addresses : List ℕ
@@ -113,12 +102,13 @@ found_by (ending e) = None
 found_by (done hart k) = None
 found_by (refused hart k cause preamble) = None
 
--- Behind these lines of its hart a request has the cause: the hart has no budget for its cost and the ending step, or its window
--- no room for its word and the ending one. No request that a job can ask for has another cause yet.
+-- Behind these lines of its hart a request has the cause: the hart has no budget for its cost and the ending step, no choice of
+-- registers serves its operands, or its window has no room for its word and the ending one. No request that a job can ask for has
+-- another cause yet.
 abbrev pub HasCause : Work → ℕ → List Line → Request → Cause → Type 0
 HasCause work h before r EmptyChoice = ⊥
 HasCause work h before r BudgetSpent = work.budget < length (effects_of before) + cost r + 1
-HasCause work h before r NoRegister = ⊥
+HasCause work h before r NoRegister = is_served (asked_word r) ≡ false
 HasCause work h before r NoAddress = ⊥
 HasCause work h before r NoTarget = ⊥
 HasCause work h before r WindowFull = window_words work h < length (filter_map made_by before) + 2

@@ -11,11 +11,13 @@ use Rattle.rv_fields.specs.Step.{step, with_write}
 use Rattle.rv_step.specs.Views.{hart_seen}
 use Rattle.choice_tree.specs.Draws.{Draws, skipped}
 use Rattle.region_plan.specs.Plan.{Work, hart_count, plan_of}
+use Rattle.region_plan.specs.Request.{Request}
 use Rattle.region_plan.specs.Rules.{IsMakeableRequest, most_requests}
 use Rattle.region_plan.specs.Script.{ScriptItem, script_of}
 use Rattle.region_plan.specs.Views.{request_seen}
 use Rattle.region_plan.specs.declared.request.Request as code
-use Rattle.trace_text.specs.Lines.{Line, starting, done}
+use Rattle.trace_fields.specs.declared.request.Cause.TheVariants.{NoRegister}
+use Rattle.trace_text.specs.Lines.{Line, starting, done, refused, request as begins}
 use Rattle.trace_text.specs.Traces.{KeepsRanges}
 use Rattle.boot_words.specs.Layout.{m_handler_at}
 use Rattle.world_face.specs.Events.{Event, Placed, no_parts, nothing_asked}
@@ -24,8 +26,8 @@ use Rattle.hart_task.specs.declared.log.Turned.TheVariants as turned
 use Rattle.hart_task.specs.declared.task.HartTask.{HartTask}
 use Rattle.hart_task.specs.declared.task.Phase as task
 use Rattle.hart_task.specs.declared.task.Phase.TheVariants as tasks
-use Rattle.hart_task.specs.Acts.{Came, Fixing, fixing_lines, is_found, is_last, is_made, step_line}
-use Rattle.hart_task.specs.Asking.{demand_asked, word_asked}
+use Rattle.hart_task.specs.Acts.{Came, Fixing, fixing_lines, is_found, is_last, is_made, request_kind, step_line}
+use Rattle.hart_task.specs.Asking.{IsWordFor, asked_word, demand_asked, is_served, worded}
 use Rattle.hart_task.specs.Bus.{word_seen}
 use Rattle.hart_task.specs.Log.{LogSeen, events_of, log_seen}
 use Rattle.hart_task.specs.OneRun.{IsFinishedRun, RunsTo, all_lines}
@@ -48,7 +50,7 @@ task_seen t = record { hart = hart_seen t.hart; phase = t.phase; begun = t.begun
 
 abbrev pub phase_seen : task.Phase → Phase
 phase_seen tasks.Between = between
-phase_seen (tasks.Making m) = making (record { k = m.k; words = word_asked m.request ∷ []; sequel = is_done (demand_asked m.request) })
+phase_seen (tasks.Making m) = making (record { k = m.k; words = m.word ∷ []; sequel = is_done (demand_asked (request_seen m.request)) })
 phase_seen (tasks.Handling g) = finding g.k handled
 phase_seen tasks.Finished = at_end
 
@@ -70,17 +72,10 @@ state_of work t = record {
   phase = phase_seen t.phase;
 }
 
--- how many words were made when so many requests have begun
-abbrev pub words_made : task.Phase → ℕ → ℕ
-words_made tasks.Between begun = begun
-words_made (tasks.Making m) begun = begun - 1
-words_made (tasks.Handling g) begun = begun
-words_made tasks.Finished begun = begun + 1
-
--- the request under way can be made, or pc is at the handler's next word
+-- the word under way is one for a request that can be made, or pc is at the handler's next word
 abbrev pub IsInPhase : task.Phase → ℕ → Type 0
 IsInPhase tasks.Between pc = Unit {0}
-IsInPhase (tasks.Making m) pc = IsMakeableRequest (request_seen m.request)
+IsInPhase (tasks.Making m) pc = IsMakeableRequest (request_seen m.request) × IsWordFor (asked_word (request_seen m.request)) m.word
 IsInPhase (tasks.Handling g) pc = pc ≡ m_handler_at + 4 * g.next
 IsInPhase tasks.Finished pc = Unit {0}
 
@@ -94,9 +89,8 @@ pub record Stands (work : Work) (t : TaskSeen) : Type 0 where
   pub fresh : (r : ℕ) → t.log.present r ≡ None → t.log.initial r ≡ None
   pub initial : (r : ℕ) → t.log.initial r ≡ starting (all_lines (events_of t.log.events)) t.hart.number r
   pub stream : t.draws.stream ≡ 2 * t.hart.number + 1
-  -- no event draws more than two words
-  pub few : t.draws.drawn ≤ 2 * length t.log.events
-  pub words : length t.log.words ≡ words_made t.phase t.begun
+  -- no event draws more than four words
+  pub few : t.draws.drawn ≤ 4 * length t.log.events
   -- each event begins a request or is a step
   pub events : t.begun ≤ length t.log.events
   pub phase : IsInPhase t.phase t.hart.pc
@@ -163,12 +157,26 @@ task_event h lines = record { hart = h; parts = no_parts; asked = nothing_asked;
 abbrev pub with_event : LogSeen → ℕ → Event → LogSeen
 with_event log place event = record log { events = log.events ++ record { place = place; event = event } ∷ [] }
 
--- the next request begins
-abbrev pub begun_task : TaskSeen → code.Request → ℕ → List Line → TaskSeen
-begun_task t request place lines = record t {
-  phase = tasks.Making (record { k = t.begun; request = request });
+-- The request of this number begins: its word is made next, or it is refused, since no choice of registers serves it.
+abbrev pub begun_phase : code.Request → ℕ → Draws → task.Phase
+begun_phase request k draws =
+    if is_served (asked_word (request_seen request))
+    then tasks.Making (record { k = k; request = request; word = (worded (asked_word (request_seen request)) draws).word })
+    else tasks.Between
+
+-- a request that is refused draws nothing
+abbrev pub begun_draws : Request → Draws → Draws
+begun_draws request draws = if is_served (asked_word request) then (worded (asked_word request) draws).left else draws
+
+abbrev pub begun_lines : ℕ → ℕ → Request → List Line
+begun_lines h k r = if is_served (asked_word r) then begins h k (request_kind r) ∷ [] else begins h k (request_kind r) ∷ refused h k NoRegister 0 ∷ []
+
+abbrev pub begun_task : TaskSeen → code.Request → ℕ → TaskSeen
+begun_task t request place = record t {
+  phase = begun_phase request t.begun t.draws;
   begun = t.begun + 1;
-  log = with_event t.log place (task_event t.hart.number lines);
+  draws = begun_draws (request_seen request) t.draws;
+  log = with_event t.log place (task_event t.hart.number (begun_lines t.hart.number t.begun (request_seen request)));
 }
 
 -- what is read of the untouched is fixed: the hart, and the log

@@ -1,18 +1,22 @@
-ghost use Rattle.std.specs.Prelude.{◌≡◌, ◌<◌, IsTrue, IfSome, Some, slice_index};
+ghost use Rattle.std.specs.Prelude.{◌≡◌, ◌+◌, ◌<◌, IsTrue, IfErr, IfOk, IfSome, Some, is_ok, slice_index};
 ghost use Rattle.rv_fields.specs.Memory.{in_ram};
 ghost use Rattle.rv_fields.specs.Step.{step};
 ghost use Rattle.region_plan.specs.Rules.{IsMakeableRequest};
-ghost use Rattle.region_plan.specs.Views.{request_seen, sys_seen};
+ghost use Rattle.region_plan.specs.Pinned.{fits_word, pinned_ops};
+ghost use Rattle.region_plan.specs.Request.{named_ins};
+ghost use Rattle.region_plan.specs.Views.{choice_seen, pins_seen, request_seen, sys_seen};
 ghost use Rattle.trace_text.specs.Traces.{IsStep};
 ghost use Rattle.trace_text.specs.Views.{step_seen};
 ghost use Rattle.rv_step.specs.Views.{hart_seen};
-ghost use Rattle.hart_task.specs.Asking.{ins_asked, word_asked};
+ghost use Rattle.hart_task.specs.Asking.{asked_word, is_served, of_ins, worded};
 ghost use Rattle.hart_task.specs.Beginning.{sys_word};
 ghost use Rattle.hart_task.specs.Bus.{word_seen};
 ghost use Rattle.hart_task.specs.Plain.{StepsPlainly};
 
 use crate::bus::OneWord;
-use region_plan::{InsChoice, Request, Sys};
+use choice_tree::DrawWords;
+use operand_solver::{NoRegister, operands};
+use region_plan::{InsChoice, Pins, Request, Sys};
 use rv_encode::encode;
 use rv_fields::Ins;
 use rv_step::{Hart, step};
@@ -20,20 +24,35 @@ use rv_table::row;
 use trace_fields::{TrailText, TrapText};
 use trace_text::StepLine;
 
-/// The word that the request makes.
-pub(crate) fn word_of(request: Request) -> u32
-    requires { IsMakeableRequest (request_seen request) }
-    ensures { result ≡ word_asked request }
+/// The word that the request makes, whose operands the next words of the stream choose.
+pub(crate) fn word_of(request: Request, words: &mut DrawWords) -> Result<u32, NoRegister>
+    requires makeable { IsMakeableRequest (request_seen request) }
+    requires few { words.old.drawn + 4 < u64.MAX }
+    ensures served { is_ok result ≡ is_served (asked_word (request_seen request)) }
+    ensures drawn { IfOk result (λ word. record { word = word; left = words.new } ≡ worded (asked_word (request_seen request)) words.old) }
+    ensures undrawn { IfErr result (λ e. words.new ≡ words.old) }
 {
     match request {
-        Request::Ins { ins, pins } => encode(named(ins), &pins.ops()).unwrap(),
-        Request::Csr { csr, ins, pins } => encode(ins, &pins.csr_ops(csr)).unwrap(),
-        Request::Sys(sys) => sys_word(sys),
+        Request::Ins { ins, pins } => ins_word(named(ins), &pins, words),
+        Request::Csr { csr, ins, pins } => ins_word(ins, &pins.of_csr(csr), words),
+        Request::Sys(sys) => Ok(sys_word(sys)),
     }
 }
 
+/// The word of the instruction, with the operands that are given, and others drawn.
+fn ins_word(ins: Ins, pins: &Pins, words: &mut DrawWords) -> Result<u32, NoRegister>
+    requires fits { IsTrue (fits_word ins (pinned_ops (pins_seen pins.now))) }
+    requires few { words.old.drawn + 4 < u64.MAX }
+    ensures served { is_ok result ≡ is_served (of_ins ins (pins_seen pins.now)) }
+    ensures drawn { IfOk result (λ word. record { word = word; left = words.new } ≡ worded (of_ins ins (pins_seen pins.now)) words.old) }
+    ensures undrawn { IfErr result (λ e. words.new ≡ words.old) }
+{
+    let ops = operands(ins, pins, words)?;
+    Ok(encode(ins, &ops).unwrap())
+}
+
 fn named(choice: InsChoice) -> Ins
-    ensures { result ≡ ins_asked choice }
+    ensures { choice_seen choice ≡ named_ins result }
 {
     let InsChoice::Named(ins) = choice;
     ins

@@ -19,18 +19,22 @@ use crate::log::{HartLog, Turned};
 use crate::stepping::{step_word, word_of};
 use boot_words::{code_start, handler, start_csrs};
 use choice_tree::DrawWords;
+use operand_solver::NoRegister;
 use region_plan::{Item, Job, Request};
 use rv_fields::{Mode, NoMemory};
 use rv_step::{Hart, rs1_of};
 use rv_table::{decode, row};
 use std::alloc::Global;
-use trace_fields::Kind;
+use trace_fields::{Cause, Kind};
 use trace_text::{Line, StepLine};
 use value_file::ValueFile;
 use world_face::{Event, Placed, World};
 
 /// The word at which a hart ends: `jal x0,0`.
 const END_WORD: u32 = 0x0000_006f;
+
+/// The most lines of a request that begins: that it does, and that it is refused.
+const MOST_LINES_OF_BEGIN: usize = 2;
 
 /// The most lines of a step: two registers that get their values, the step, and the end of its request.
 const MOST_LINES: usize = 4;
@@ -44,6 +48,8 @@ pub struct Making {
     /// The number of the request.
     pub k: u32,
     pub request: Request,
+    /// The word, whose operands are drawn.
+    pub word: u32,
 }
 
 /// A request whose step took a trap, and which is done when the handler has returned.
@@ -82,10 +88,9 @@ impl HartTask {
     ghost use Rattle.std.specs.Prelude.{◌≢◌};
     ghost use Rattle.boot_words.specs.Boot.{handler};
     ghost use Rattle.hart_task.specs.Acts.{Fixing, fixing_lines};
-    ghost use Rattle.hart_task.specs.Asking.{word_asked};
     ghost use Rattle.hart_task.specs.Log.{HasLogRoom, HasRoomForEvent, log_seen};
     ghost use Rattle.hart_task.specs.Plain.{IsPlainFor};
-    ghost use Rattle.hart_task.specs.Task.{Commits, IsLogOf, IsTaskOf, IsTurn, Moves, Steps, begun_task, events_left, fixed_task, late_of, late_one, of_end, of_handler, of_request, script, task_event, task_seen, with_event};
+    ghost use Rattle.hart_task.specs.Task.{Commits, IsLogOf, IsTaskOf, IsTurn, Moves, Steps, begun_lines, begun_task, events_left, fixed_task, late_of, late_one, of_end, of_handler, of_request, script, task_event, task_seen, with_event};
     ghost use Rattle.rv_step.specs.Views.{hart_seen};
 
     /// A hart before its first event, at the start of its code window.
@@ -116,8 +121,7 @@ impl HartTask {
     }
 
     /// Takes one turn at the template: a request begins, its word is made, the handler of its trap goes on, or the hart
-    /// ends. The
-    /// job is the one of every turn. What it takes of memory it takes before it changes anything.
+    /// ends. The job is the one of every turn. What it takes of memory it takes before it changes anything.
     pub fn turn<W: World>(
         &mut self,
         alloc: Global,
@@ -175,38 +179,47 @@ impl HartTask {
         Some(request_in(item))
     }
 
-    /// The request begins.
+    /// The request begins: the operands of its word are drawn, or it is refused.
     fn begin<W: World>(
         &mut self,
         alloc: Global,
         request: Request,
         world: &mut W,
     ) -> Result<u64, NoMemory>
+        requires makeable { IsMakeableRequest (request_seen request) }
+        requires few { self.old.draws.drawn + 4 < u64.MAX }
         requires room { 0 < W.room world.old }
         requires count { self.old.begun < most_requests }
-        ensures task { IfOk result (λ place. task_seen self.new
-            ≡ begun_task (task_seen self.old) request place (told.request self.old.hart.number self.old.begun (request_kind (request_seen request)) ∷ [])) }
-        ensures commits { IfOk result (λ place. Commits place (task_event self.old.hart.number (told.request self.old.hart.number self.old.begun (request_kind (request_seen request)) ∷ []))
+        ensures task { IfOk result (λ place. task_seen self.new ≡ begun_task (task_seen self.old) request place) }
+        ensures commits { IfOk result (λ place. Commits place (task_event self.old.hart.number (begun_lines self.old.hart.number self.old.begun (request_seen request)))
             (W.stands world.old) (W.stands world.new)) }
-        ensures ranges { KeepsRanges (told.request self.old.hart.number self.old.begun (request_kind (request_seen request))) }
+        ensures ranges { IfOk result (λ place. AllByRecursion KeepsRanges (begun_lines self.old.hart.number self.old.begun (request_seen request))) }
         ensures room { IfOk result (λ place. W.room world.new + 1 ≡ W.room world.old) }
         ensures unchanged { OnErr result (task_seen self.new ≡ task_seen self.old) }
         ensures quiet { OnErr result (world.new ≡ world.old) }
     {
         self.log.reserve()?;
-        let mut event = Event::new(alloc, self.hart.number, 1)?;
+        let (hart, k) = (self.hart.number, self.begun);
+        let mut event = Event::new(alloc, hart, MOST_LINES_OF_BEGIN)?;
         event.add(Line::Q {
-            hart: self.hart.number,
-            k: self.begun,
+            hart,
+            k,
             kind: kind_of(request),
         });
-        let place = self.commit(event, world);
-        self.phase = Phase::Making(Making {
-            k: self.begun,
-            request,
-        });
+        self.phase = match word_of(request, &mut self.draws) {
+            Ok(word) => Phase::Making(Making { k, request, word }),
+            Err(NoRegister) => {
+                event.add(Line::R {
+                    hart,
+                    k,
+                    cause: Cause::NoRegister,
+                    pre: 0,
+                });
+                Phase::Between
+            }
+        };
         self.begun += 1;
-        Ok(place)
+        Ok(self.commit(event, world))
     }
 
     /// The request under way makes its word. It is done then, unless its step takes a trap.
@@ -216,21 +229,19 @@ impl HartTask {
         making: Making,
         world: &mut W,
     ) -> Result<u64, NoMemory>
-        requires makeable { IsMakeableRequest (request_seen making.request) }
-        requires plain { IsPlainFor (hart_seen self.old.hart) (word_asked making.request) }
+        requires plain { IsPlainFor (hart_seen self.old.hart) making.word }
         requires zero { slice_index self.old.hart.x 0 ≡ 0 }
         requires in_ram { IsTrue (in_ram self.old.hart.pc 4) }
         requires few { self.old.draws.drawn + 2 < u64.MAX }
         requires room { 0 < W.room world.old }
-        ensures steps { IfOk result (λ place. Steps (of_request making.k) (word_asked making.request) (task_seen self.old) (task_seen self.new) place (W.stands world.old) (W.stands world.new)) }
+        ensures steps { IfOk result (λ place. Steps (of_request making.k) making.word (task_seen self.old) (task_seen self.new) place (W.stands world.old) (W.stands world.new)) }
         ensures room { IfOk result (λ place. W.room world.new + 1 ≡ W.room world.old) }
         ensures unchanged { OnErr result (task_seen self.new ≡ task_seen self.old) }
         ensures quiet { OnErr result (world.new ≡ world.old) }
     {
-        let word = word_of(making.request);
-        let (mut event, step) = self.step(alloc, word)?;
+        let (mut event, step) = self.step(alloc, making.word)?;
         let is_trapped = step.trap.is_some();
-        self.log.add_word(word);
+        self.log.add_word(making.word);
         event.add(Line::S(step));
         if is_trapped {
             self.phase = Phase::Handling(Handling {

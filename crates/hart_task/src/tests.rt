@@ -56,9 +56,8 @@ fn addi(rd: u8, imm: i64) -> Item
         pins: Pins {
             rd: Some(rd),
             rs1: Some(0),
-            rs2: None,
             imm: Some(imm),
-            zero_rs1: false,
+            ..Pins::none()
         },
     })
 }
@@ -74,8 +73,7 @@ fn add(rd: u8, rs1: u8, rs2: u8) -> Item
             rd: Some(rd),
             rs1: Some(rs1),
             rs2: Some(rs2),
-            imm: None,
-            zero_rs1: false,
+            ..Pins::none()
         },
     })
 }

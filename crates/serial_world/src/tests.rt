@@ -22,9 +22,8 @@ fn item() -> Item
         pins: Pins {
             rd: Some(5),
             rs1: Some(1),
-            rs2: None,
             imm: Some(7),
-            zero_rs1: false,
+            ..Pins::none()
         },
     })
 }

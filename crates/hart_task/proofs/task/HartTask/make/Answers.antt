@@ -1,12 +1,12 @@
 -- The word of a request is stepped and told.
-use Rattle.std.proofs.Common.{ℕ, ◌≡◌, ◌++◌, ◌∷◌, [], ◌∙◌, ap, sym, subst}
+use Rattle.std.proofs.Common.{ℕ, ◌≡◌, ◌++◌, ◌∷◌, [], ◌∙◌, ap, sym}
 use Rattle.rv_fields.specs.Effect.{Effect}
 use Rattle.trace_text.specs.Lines as told
 use Rattle.trace_text.specs.Views.{step_seen}
 use Rattle.world_face.specs.Events.{Event}
 use Rattle.world_face.specs.Views.{event_seen}
 use Rattle.hart_task.specs.Log.{log_seen}
-use Rattle.hart_task.specs.Task.{Moves, Steps, TaskSeen, Whose, done_by, of_request, phase_by, task_seen, with_event}
+use Rattle.hart_task.specs.Task.{Moves, TaskSeen, Whose, done_by, of_request, phase_by, task_seen, with_event}
 use Rattle.hart_task.proofs.Telling.{IsToldOf, goes_on_from, moved_number, none_in, some_in, steps_of, told_done, told_open}
 use Rattle.hart_task.proofs.task.HartTask.make.Goals.{else-is_trapped, then-is_trapped}
 use Rattle.hart_task.proofs.task.HartTask.make.Goals as goal
@@ -20,7 +20,7 @@ returns-clause-steps g c =
     let moved : TaskSeen = task_seen c.step.new.self in
     let k : ℕ = c.args.making.k in
     let whose : Whose = of_request k in
-    let word : ℕ = c.word_of-word.result in
+    let word : ℕ = c.args.making.word in
     let effect : Effect = step_seen c.in_ok-event.step in
     let event : Event = event_seen c.if-is_trapped.event in
     let moves : Moves word old moved effect = c.in_ok-event.ensures.moves in
@@ -42,6 +42,5 @@ returns-clause-steps g c =
                 c.in_ok-event.ensures.ranges c.in_ok-event.ensures.told w.done.ensures.ranges,
           )
     ] in
-    subst (λ w. Steps whose w old (task_seen c.commit.new.self) c.commit.result (g.W.World.stands c.args.world.now) (g.W.World.stands c.commit.new.world)) c.word_of-word.ensures
-    (steps_of whose word c.commit.result old moved (task_seen c.commit.new.self) effect event _ _ moves both.1
-    (c.commit.ensures.task ∙ ap (λ (t : TaskSeen). record t { log = with_event t.log c.commit.result event }) both.0) c.commit.ensures.commits)
+    steps_of whose word c.commit.result old moved (task_seen c.commit.new.self) effect event (g.W.World.stands c.args.world.now) (g.W.World.stands c.commit.new.world) moves both.1
+    (c.commit.ensures.task ∙ ap (λ (t : TaskSeen). record t { log = with_event t.log c.commit.result event }) both.0) c.commit.ensures.commits
