@@ -1,5 +1,5 @@
 -- Values that are read one after another, as far as a loop has come.
-use Rattle.std.proofs.Common.{ℕ, ◌+◌, ◌<◌, ◌≤◌, ◌≡◌, List, [], ◌∷◌, ◌++◌, length, map, drop, get_or, Option, Some, None, Result, Err, Vec, Global, refl, ap, sym, subst, ◌∙◌, append_assoc, append-nil}
+use Rattle.std.proofs.Common.{ℕ, ◌+◌, ◌<◌, ◌≤◌, ◌≡◌, Bool, List, [], ◌∷◌, ◌++◌, length, map, drop, get_or, Option, Some, None, Result, Err, Vec, Global, refl, ap, sym, subst, ◌∙◌, append_assoc, append-nil}
 use Rattle.std.proofs.lemmas.List.{at_drop_all, at_drop_more}
 use Rattle.serde_json.specs.declared.value.Value.{Value}
 use Rattle.serde_json.specs.Data.{Data, Items as Values, no_items as no_values, item}
@@ -14,9 +14,11 @@ use Rattle.region_plan.specs.declared.request.Item.{Item}
 use Rattle.region_plan.specs.declared.request.Item.TheVariants.{One}
 use Rattle.region_plan.specs.declared.request.Request as asked
 use Rattle.region_plan.specs.Plan.{HartPlan}
+use Rattle.region_plan.specs.Registers.{registers_in, rising}
+use Rattle.region_plan.proofs.Registers.{rising_again, rising_more}
 use Rattle.region_plan.specs.Request.{Items, no_items, one}
 use Rattle.region_plan.specs.Views.{harts_seen, items_seen, planned_hart, request_seen, work_of}
-use Rattle.job_read.specs.Accepted.{request_of, items_of, accepted_hart, harts_of}
+use Rattle.job_read.specs.Accepted.{request_of, register, numbers_of, items_of, accepted_hart, harts_of}
 
 -- One value more is read: what was read so far, ahead of what the values left give, is the whole as before.
 one_more : {Y Z : Type 0} (read_one : Data → Option Y) (read_all : Values → Option Z) (join : Y → Z → Z)
@@ -73,6 +75,35 @@ pub items_all : (values : List Value) (index : ℕ) (items : List Item) → leng
     → (items_of (items_view (drop index values)) >>= λ others. Some (ahead items others)) ≡ items_of (items_view values)
     → items_of (items_view values) ≡ Some (items_seen items)
 items_all values index items end whole = none_left items_of no_items refl values index (ahead items) _ end whole ∙ ap Some (ahead_of_none items)
+
+-- ---- registers to avoid
+
+-- those so far with the ones left
+abbrev pub registers_with : List Bool → List ℕ → List ℕ
+registers_with has others = rising (registers_in has ++ others)
+
+pub register_more : (values : List Value) (index : ℕ) (old new : List Bool) (value : Value) (number : ℕ) (all : Option (List ℕ))
+    → index < length values → get_or values index value ≡ value → register (view value) ≡ Some number → registers_in new ≡ rising (number ∷ registers_in old)
+    → (numbers_of (items_view (drop index values)) >>= λ others. Some (registers_with old others)) ≡ all
+    → (numbers_of (items_view (drop (index + 1) values)) >>= λ others. Some (registers_with new others)) ≡ all
+register_more values index old new value number all small at read is whole =
+    one_more register numbers_of (λ n ns. n ∷ ns) (λ v vs. refl) values index value number (registers_with old) (registers_with new) all small at read
+    (λ others. ap (λ members. rising (members ++ others)) is ∙ rising_more (registers_in old) others number) whole
+
+pub registers_all : (values : List Value) (index : ℕ) (has : List Bool) (all : Option (List ℕ)) → length values ≤ index
+    → (numbers_of (items_view (drop index values)) >>= λ others. Some (registers_with has others)) ≡ all → all ≡ Some (registers_in has)
+registers_all values index has all end whole =
+    none_left numbers_of [] refl values index (registers_with has) all end whole ∙ ap (λ members. Some (rising members)) (append-nil (registers_in has)) ∙ ap Some (rising_again has)
+
+-- a value that is no register leaves none
+pub no_registers : (values : List Value) (index : ℕ) (value : Value) (has : List Bool) (all : Option (List ℕ))
+    → index < length values → get_or values index value ≡ value → register (view value) ≡ None
+    → (numbers_of (items_view (drop index values)) >>= λ others. Some (registers_with has others)) ≡ all → all ≡ None
+no_registers values index value has all small at none whole =
+    let rest : List Value = drop (index + 1) values in
+    let F : List Value → Option (List ℕ) = λ vs. numbers_of (items_view vs) >>= λ others. Some (registers_with has others) in
+    sym whole ∙ at_drop_more F values index value small ∙ ap (λ v. F (v ∷ rest)) at
+    ∙ ap (λ m. (m >>= λ n. (numbers_of (items_view rest) >>= λ ns. Some (n ∷ ns))) >>= λ others. Some (registers_with has others)) none
 
 -- ---- harts
 

@@ -1,5 +1,5 @@
 -- A job that is accepted keeps the rules.
-use Rattle.std.proofs.Common.{suc, codes, ◌≡◌, ◌≤◌, Bool, false, List, [], ◌∷◌, length, Option, Some, None, Result, Ok, Err, refl, ap, subst, arith}
+use Rattle.std.proofs.Common.{suc, codes, ◌≡◌, ◌≤◌, Bool, false, List, [], ◌∷◌, length, Option, Some, None, Result, Ok, Err, refl, ap, subst, sym, arith}
 use Rattle.std.specs.Prelude.{IfOk}
 use Rattle.std.specs.List.{AllByRecursion}
 use Rattle.std.proofs.lemmas.Bool.{and_parts, leb-true}
@@ -11,7 +11,6 @@ use Rattle.rv_fields.specs.Csr.{csr_called}
 use Rattle.rv_fields.specs.Play.{most_harts}
 use Rattle.rv_fields.specs.RowTable.{ins_called}
 use Rattle.rv_fields.proofs.Options.{found}
-use Rattle.region_plan.specs.Pinned.{bare_pins}
 use Rattle.region_plan.specs.declared.job.Job.{Job}
 use Rattle.region_plan.specs.Plan.{HartPlan, Work}
 use Rattle.region_plan.specs.Request.{Items, Pins, Request, no_items, one}
@@ -23,18 +22,18 @@ use Rattle.region_plan.specs.Views.{sys_seen, work_of, work_with}
 use Rattle.json_keys.specs.declared.input.InputFault.{InputFault}
 use Rattle.json_keys.specs.Input.{ReadsAs}
 use Rattle.json_keys.specs.Json.{integer, object_of, natural_at, text_at}
-use Rattle.job_read.specs.Accepted.{csr_request, given_by, ins_request, pins_of, register, request_by, request_of, sys_called, sys_request, way_called, items_of, hart_plan, template_at, accepted_hart, harts_of, harts_at, job_of}
+use Rattle.job_read.specs.Accepted.{avoided_at, csr_request, given_by, ins_request, pins_of, register, request_by, request_of, sys_called, sys_request, way_called, items_of, hart_plan, template_at, accepted_hart, harts_of, harts_at, job_of}
 
--- the operands that are read are all that an item has
-pins_alone : (zero_rs1 : Bool) (members : Members) (pins : Pins) → pins_of zero_rs1 members ≡ Some pins
-    → pins ≡ bare_pins pins.rd pins.rs1 pins.rs2 pins.imm pins.zero_rs1
-pins_alone zero_rs1 members pins e =
+-- the operands that are read ask for no order
+pins_bare : (zero_rs1 : Bool) (members : Members) (pins : Pins) → pins_of zero_rs1 members ≡ Some pins → pins.aqrl ≡ 0
+pins_bare zero_rs1 members pins e =
     let rd = found (given_by register (get_member (codes "rd") members)) _ pins e in
     let rs1 = found (given_by register (get_member (codes "rs1") members)) _ pins rd.2 in
     let rs2 = found (given_by register (get_member (codes "rs2") members)) _ pins rs1.2 in
     let imm = found (given_by integer (get_member (codes "imm") members)) _ pins rs2.2 in
-    let is_pins : bare_pins rd.0 rs1.0 rs2.0 imm.0 zero_rs1 ≡ pins = same_Some _ _ imm.2 in
-    subst (λ (p : Pins). p ≡ bare_pins p.rd p.rs1 p.rs2 p.imm p.zero_rs1) is_pins refl
+    let avoid = found (avoided_at members) _ pins imm.2 in
+    let is_pins : record { rd = rd.0; rs1 = rs1.0; rs2 = rs2.0; imm = imm.0; aqrl = 0; avoid = avoid.0; zero_rs1 = zero_rs1 } ≡ pins = same_Some _ _ avoid.2 in
+    ap (λ (p : Pins). p.aqrl) (sym is_pins)
 
 -- a request that is accepted can be made
 ins_makeable : (members : Members) (request : Request) → ins_request members ≡ Some request → IsMakeableRequest request
@@ -43,7 +42,7 @@ ins_makeable members request e =
     let ins = found (ins_called name.0) _ request name.2 in
     let pins = found (pins_of false members) _ request ins.2 in
     let passed = cond_some _ _ request pins.2 in
-    subst IsMakeableRequest passed.1 (record { whole = (and_parts _ _ passed.0).1; alone = pins_alone false members pins.0 pins.1 })
+    subst IsMakeableRequest passed.1 (record { whole = (and_parts _ _ passed.0).1; no_order = pins_bare false members pins.0 pins.1 })
 
 csr_makeable : (members : Members) (request : Request) → csr_request members ≡ Some request → IsMakeableRequest request
 csr_makeable members request e =
@@ -53,7 +52,7 @@ csr_makeable members request e =
     let way = found (way_called op.0) _ request op.2 in
     let pins = found (pins_of way.0.zero_rs1 members) _ request way.2 in
     let passed = cond_some _ _ request pins.2 in
-    subst IsMakeableRequest passed.1 (record { whole = (and_parts _ _ passed.0).1; alone = pins_alone way.0.zero_rs1 members pins.0 pins.1 })
+    subst IsMakeableRequest passed.1 (record { whole = (and_parts _ _ passed.0).1; no_order = pins_bare way.0.zero_rs1 members pins.0 pins.1 })
 
 -- a template may ask for each word that has a name
 sys_may : (sys : Sys) → IsMakeableSys (sys_seen sys)
@@ -66,7 +65,8 @@ sys_makeable : (members : Members) (request : Request) → sys_request members �
 sys_makeable members request e =
     let name = found (text_at (codes "sys") members) _ request e in
     let sys = found (sys_called name.0) _ request name.2 in
-    let passed = cond_some _ _ request sys.2 in
+    let avoid = found (avoided_at members) _ request sys.2 in
+    let passed = cond_some _ _ request avoid.2 in
     subst IsMakeableRequest passed.1 (sys_may sys.0)
 
 makeable_by : (ins csr : Option Data) (members : Members) (request : Request) → request_by ins csr members ≡ Some request → IsMakeableRequest request

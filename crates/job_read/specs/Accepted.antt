@@ -1,5 +1,5 @@
 -- The jobs that are accepted, as the JSON values that they are.
-use Rattle.std.specs.Prelude.{ℕ, ◌+◌, Bool, true, false, List, [], ◌∷◌, codes, nat_lt, nat_le, ◌==◌, ◌&&◌, Option, Some, None, option_map, if◌then◌else◌}
+use Rattle.std.specs.Prelude.{ℕ, ◌+◌, Bool, true, false, List, [], ◌∷◌, codes, nat_lt, nat_le, ◌==◌, ◌&&◌, Option, Some, None, is_some, option_map, if◌then◌else◌}
 use Rattle.std.specs.Str.{bytes_eq}
 use Rattle.serde_json.specs.Data.{Data, Members, Items as Values, no_items as no_values, item}
 use Rattle.serde_json.specs.Events.{items_len, members_len}
@@ -11,11 +11,12 @@ use Rattle.rv_fields.specs.Attempt.{◌>>=◌}
 use Rattle.rv_fields.specs.Csr.{csr_called}
 use Rattle.rv_fields.specs.Play.{most_harts}
 use Rattle.rv_fields.specs.RowTable.{ins_called}
-use Rattle.region_plan.specs.Pinned.{bare_pins, is_csr_pinned, is_fully_pinned}
+use Rattle.region_plan.specs.Pinned.{suit, suit_csr}
 use Rattle.region_plan.specs.Plan.{HartPlan, Work, no_hart}
 use Rattle.region_plan.specs.declared.request.Sys.{Sys}
 use Rattle.region_plan.specs.declared.request.Sys.TheVariants.{Ecall, Ebreak, Zero, Sfence}
 use Rattle.region_plan.specs.Request.{Items, Pins, Request, a_csr, a_plain, a_sys, an_ins, named_ins, no_items, one}
+use Rattle.region_plan.specs.Registers.{rising}
 use Rattle.region_plan.specs.Rules.{most_code_pages, most_requests}
 use Rattle.region_plan.specs.Views.{sys_seen, work_with}
 use Rattle.job_read.specs.declared.requests.CsrWay.{CsrWay}
@@ -34,6 +35,33 @@ given_by read (Some value) = do
   operand ← read value
   Some (Some operand)
 
+-- ---- registers to avoid
+
+-- the registers that are listed
+abbrev pub numbers_of : Values → Option (List ℕ)
+numbers_of no_values = Some []
+numbers_of (item value values) = do
+  number ← register value
+  numbers ← numbers_of values
+  Some (number ∷ numbers)
+
+abbrev pub registers_of : Values → Option (List ℕ)
+registers_of values = do
+  numbers ← numbers_of values
+  Some (rising numbers)
+
+-- those that no operand of an item may be: none where it lists none
+abbrev pub avoided_by : Option Data → Option (List ℕ)
+avoided_by None = Some []
+avoided_by (Some value) = do
+  values ← as_array value
+  registers_of values
+
+abbrev pub avoided_at : Members → Option (List ℕ)
+avoided_at members = avoided_by (get_member (codes "avoid") members)
+
+-- ---- operands
+
 -- the operands of an item, each at its key; whether rs1 is the fixed 0 of a read is handed in
 abbrev pub pins_of : Bool → Members → Option Pins
 pins_of zero_rs1 members = do
@@ -41,22 +69,22 @@ pins_of zero_rs1 members = do
   rs1 ← given_by register (get_member (codes "rs1") members)
   rs2 ← given_by register (get_member (codes "rs2") members)
   imm ← given_by integer (get_member (codes "imm") members)
-  Some (bare_pins rd rs1 rs2 imm zero_rs1)
+  avoid ← avoided_at members
+  Some (record { rd = rd; rs1 = rs1; rs2 = rs2; imm = imm; aqrl = 0; avoid = avoid; zero_rs1 = zero_rs1 })
 
-abbrev pub one_if_given : {A : Type 0} → Option A → ℕ
-one_if_given None = 0
-one_if_given (Some operand) = 1
+abbrev pub one_if_there : List ℕ → Members → ℕ
+one_if_there key members = if is_some (get_member key members) then 1 else 0
 
--- how many keys give these operands
-abbrev pub key_count : Pins → ℕ
-key_count pins = one_if_given pins.rd + one_if_given pins.rs1 + one_if_given pins.rs2 + one_if_given pins.imm
+-- how many keys of an item give these
+abbrev pub key_count : Members → ℕ
+key_count members = one_if_there (codes "rd") members + one_if_there (codes "rs1") members + one_if_there (codes "rs2") members
+    + one_if_there (codes "imm") members + one_if_there (codes "avoid") members
 
 -- ---- instructions
 
--- the request of an item with so many keys: all the operands of an instruction, and no more
-abbrev pub ins_request_for : Ins → Pins → ℕ → Option Request
-ins_request_for ins pins keys =
-    if (keys == 1 + key_count pins) && is_fully_pinned ins pins then Some (a_plain (an_ins (named_ins ins) pins)) else None
+-- the request of an item that has no other keys, where its operands suit the instruction
+abbrev pub ins_request_for : Ins → Pins → Bool → Option Request
+ins_request_for ins pins alone = if alone && suit ins pins then Some (a_plain (an_ins (named_ins ins) pins)) else None
 
 -- {"ins":NAME, ..}
 abbrev pub ins_request : Members → Option Request
@@ -64,7 +92,7 @@ ins_request members = do
   name ← text_at (codes "ins") members
   ins ← ins_called name
   pins ← pins_of false members
-  ins_request_for ins pins (members_len members)
+  ins_request_for ins pins (members_len members == 1 + key_count members)
 
 -- ---- instructions on CSRs
 
@@ -74,10 +102,9 @@ way_called name =
     if bytes_eq name (codes "read") then Some (record { ins = Csrrs; zero_rs1 = true })
     else option_map (λ ins. record { ins = ins; zero_rs1 = false }) (ins_called name)
 
--- the request of an item with so many keys: all the operands of an instruction on a CSR, and no more
-abbrev pub csr_request_for : Csr → Ins → Pins → ℕ → Option Request
-csr_request_for csr ins pins keys =
-    if (keys == 2 + key_count pins) && is_csr_pinned csr ins pins then Some (a_plain (a_csr csr ins pins)) else None
+-- the request of an item that has no other keys, where its operands suit the instruction
+abbrev pub csr_request_for : Csr → Ins → Pins → Bool → Option Request
+csr_request_for csr ins pins alone = if alone && suit_csr csr ins pins then Some (a_plain (a_csr csr ins pins)) else None
 
 -- {"csr":NAME,"op":OP, ..}
 abbrev pub csr_request : Members → Option Request
@@ -87,7 +114,7 @@ csr_request members = do
   op ← text_at (codes "op") members
   way ← way_called op
   pins ← pins_of way.zero_rs1 members
-  csr_request_for csr way.ins pins (members_len members)
+  csr_request_for csr way.ins pins (members_len members == 2 + key_count members)
 
 -- ---- words of their own
 
@@ -99,12 +126,13 @@ sys_called name =
     else (if bytes_eq name (codes "zero") then Some Zero
     else (if bytes_eq name (codes "sfence") then Some Sfence else None)))
 
--- {"sys":NAME}, and no more
+-- {"sys":NAME}, and what it avoids, which its word has no register for
 abbrev pub sys_request : Members → Option Request
 sys_request members = do
   name ← text_at (codes "sys") members
   sys ← sys_called name
-  if members_len members == 1 then Some (a_plain (a_sys (sys_seen sys))) else None
+  avoid ← avoided_at members
+  if members_len members == 1 + one_if_there (codes "avoid") members then Some (a_plain (a_sys (sys_seen sys))) else None
 
 -- ---- items
 

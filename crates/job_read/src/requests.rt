@@ -1,13 +1,14 @@
-ghost use Rattle.std.specs.Prelude.{◌≡◌, option_map};
+ghost use Rattle.std.specs.Prelude.{◌≡◌, ◌≤◌, option_map};
 ghost use Rattle.serde_json.specs.Find.{get_member};
 ghost use Rattle.serde_json.specs.View.{view, items_view, members_view};
 ghost use Rattle.json_keys.specs.Input.{ReadsAs};
 ghost use Rattle.json_keys.specs.Json.{integer};
+ghost use Rattle.region_plan.specs.Registers.{registers_in};
 ghost use Rattle.region_plan.specs.Views.{items_seen, pins_seen, request_seen};
-ghost use Rattle.job_read.specs.Accepted.{csr_request, csr_request_for, given_by, ins_request, ins_request_for, items_of, key_count, pins_of, register, request_by, request_of, sys_called, sys_request, way_called};
+ghost use Rattle.job_read.specs.Accepted.{avoided_at, csr_request, csr_request_for, given_by, ins_request, ins_request_for, items_of, key_count, one_if_there, pins_of, register, registers_of, request_by, request_of, sys_called, sys_request, way_called};
 
 use json_keys::{InputFault, Members, text_at, value_at};
-use region_plan::{InsChoice, Item, Pins, Request, Sys};
+use region_plan::{InsChoice, Item, Pins, RegisterSet, Request, Sys};
 use rv_fields::{Csr, Ins, csr_named};
 use rv_table::by_name;
 use serde_json::Value;
@@ -37,21 +38,21 @@ fn request_of(value: &Value) -> Option<Request>
     }
 }
 
-/// One instruction, with all of its operands.
+/// One instruction, with the operands that the item gives.
 #[tactic(auto, using(json_keys::proofs::Reading::lengths))]
 fn ins_request(members: &Members) -> Option<Request>
     ensures { option_map request_seen result ≡ ins_request (members_view members.now.entries) }
 {
     let ins = by_name(text_at("ins", members)?)?;
     let pins = pins_of(members, false)?;
-    ins_request_for(ins, pins, members.len())
+    ins_request_for(ins, pins, members.len() == 1 + key_count(members))
 }
 
-/// The request of an item with so many keys, where these are all that it may have.
-fn ins_request_for(ins: Ins, pins: Pins, keys: usize) -> Option<Request>
-    ensures { option_map request_seen result ≡ ins_request_for ins (pins_seen pins) keys }
+/// The request of an item whose keys are these alone, or not.
+fn ins_request_for(ins: Ins, pins: Pins, are_alone: bool) -> Option<Request>
+    ensures { option_map request_seen result ≡ ins_request_for ins (pins_seen pins) are_alone }
 {
-    if keys == 1 + key_count(&pins) && pins.are_all_pinned(ins) {
+    if are_alone && pins.suit(ins) {
         Some(Request::Ins {
             ins: InsChoice::Named(ins),
             pins,
@@ -61,7 +62,7 @@ fn ins_request_for(ins: Ins, pins: Pins, keys: usize) -> Option<Request>
     }
 }
 
-/// One instruction on a CSR, with all of its operands.
+/// One instruction on a CSR, with the operands that the item gives.
 #[tactic(auto, using(json_keys::proofs::Reading::lengths))]
 fn csr_request(members: &Members) -> Option<Request>
     ensures { option_map request_seen result ≡ csr_request (members_view members.now.entries) }
@@ -69,7 +70,7 @@ fn csr_request(members: &Members) -> Option<Request>
     let csr = csr_named(text_at("csr", members)?)?;
     let way = way_called(text_at("op", members)?)?;
     let pins = pins_of(members, way.zero_rs1)?;
-    csr_request_for(csr, way.ins, pins, members.len())
+    csr_request_for(csr, way.ins, pins, members.len() == 2 + key_count(members))
 }
 
 /// What is done with a CSR: the instruction, and whether its rs1 is the fixed x0 of a read.
@@ -96,24 +97,25 @@ fn way_called(name: &str) -> Option<CsrWay>
     })
 }
 
-/// The request of an item with so many keys, where these are all that it may have.
-fn csr_request_for(csr: Csr, ins: Ins, pins: Pins, keys: usize) -> Option<Request>
-    ensures { option_map request_seen result ≡ csr_request_for csr ins (pins_seen pins) keys }
+/// The request of an item whose keys are these alone, or not.
+fn csr_request_for(csr: Csr, ins: Ins, pins: Pins, are_alone: bool) -> Option<Request>
+    ensures { option_map request_seen result ≡ csr_request_for csr ins (pins_seen pins) are_alone }
 {
-    if keys == 2 + key_count(&pins) && pins.are_of_csr(csr, ins) {
+    if are_alone && pins.suit_csr(csr, ins) {
         Some(Request::Csr { csr, ins, pins })
     } else {
         None
     }
 }
 
-/// One word of its own.
+/// One word of its own. What it avoids has no effect.
 #[tactic(auto, using(json_keys::proofs::Reading::lengths))]
 fn sys_request(members: &Members) -> Option<Request>
     ensures { option_map request_seen result ≡ sys_request (members_view members.now.entries) }
 {
     let sys = sys_called(text_at("sys", members)?)?;
-    if members.len() == 1 {
+    avoided_at(members)?;
+    if members.len() == 1 + one_if_there("avoid", members) {
         Some(Request::Sys(sys))
     } else {
         None
@@ -133,7 +135,7 @@ fn sys_called(name: &str) -> Option<Sys>
     }
 }
 
-/// The operands that the item gives.
+/// The operands that the item gives, and the registers that the others may not be.
 fn pins_of(members: &Members, zero_rs1: bool) -> Option<Pins>
     ensures { option_map pins_seen result ≡ pins_of zero_rs1 (members_view members.now.entries) }
 {
@@ -142,18 +144,49 @@ fn pins_of(members: &Members, zero_rs1: bool) -> Option<Pins>
         rs1: register_at("rs1", members)?,
         rs2: register_at("rs2", members)?,
         imm: integer_at("imm", members)?,
+        avoid: avoided_at(members)?,
         zero_rs1,
     })
 }
 
-/// How many keys give these operands.
-fn key_count(pins: &Pins) -> usize
-    ensures { result ≡ key_count (pins_seen pins.now) }
+/// How many keys give these.
+fn key_count(members: &Members) -> usize
+    ensures count { result ≡ key_count (members_view members.now.entries) }
+    ensures few { result ≤ 5 }
 {
-    usize::from(pins.rd.is_some())
-        + usize::from(pins.rs1.is_some())
-        + usize::from(pins.rs2.is_some())
-        + usize::from(pins.imm.is_some())
+    one_if_there("rd", members)
+        + one_if_there("rs1", members)
+        + one_if_there("rs2", members)
+        + one_if_there("imm", members)
+        + one_if_there("avoid", members)
+}
+
+fn one_if_there(key: &str, members: &Members) -> usize
+    ensures count { result ≡ one_if_there key.now (members_view members.now.entries) }
+    ensures few { result ≤ 1 }
+{
+    usize::from(value_at(key, members).is_some())
+}
+
+/// The registers that the item avoids: none where it lists none.
+fn avoided_at(members: &Members) -> Option<RegisterSet>
+    ensures { option_map (λ set. registers_in set.has) result ≡ avoided_at (members_view members.now.entries) }
+{
+    match value_at("avoid", members) {
+        Some(value) => registers_of(value.as_array()?.as_slice()),
+        None => Some(RegisterSet::empty()),
+    }
+}
+
+/// The registers that are listed.
+fn registers_of(values: &[Value]) -> Option<RegisterSet>
+    ensures { option_map (λ set. registers_in set.has) result ≡ registers_of (items_view values.now) }
+{
+    let mut registers = RegisterSet::empty();
+    for value in values {
+        registers = registers.with(register(value)?);
+    }
+    Some(registers)
 }
 
 /// The register at a key, where there is one.

@@ -1,5 +1,5 @@
 use super::*;
-use region_plan::{HartPlan, InsChoice, Item, MOST_REQUESTS, Pins, Request, Sys};
+use region_plan::{HartPlan, InsChoice, Item, MOST_REQUESTS, Pins, RegisterSet, Request, Sys};
 use rv_fields::{Csr, Ins, MOST_HARTS, Mode};
 use std::alloc::{AllocError, Global};
 use std::test::*;
@@ -52,9 +52,8 @@ fn reads_a_request(rt: HostRuntime) -> Result<(), Fail> {
     let pins = Pins {
         rd: Some(1),
         rs1: Some(0),
-        rs2: None,
         imm: Some(5),
-        zero_rs1: false,
+        ..Pins::none()
     };
     let plan = HartPlan {
         mode: Mode::M,
@@ -74,8 +73,7 @@ fn reads_a_sum_of_two_registers(rt: HostRuntime) -> Result<(), Fail> {
         rd: Some(3),
         rs1: Some(1),
         rs2: Some(31),
-        imm: None,
-        zero_rs1: false,
+        ..Pins::none()
     };
     assert_eq!(rt; job.hart_count(), 1);
     assert_eq!(rt; job.template(0), [item(Ins::Add, pins)].as_slice());
@@ -88,13 +86,33 @@ fn reads_a_request_without_sources(rt: HostRuntime) -> Result<(), Fail> {
     let job = read_job(rt.alloc(), text.as_bytes())?;
     let pins = Pins {
         rd: Some(3),
-        rs1: None,
-        rs2: None,
         imm: Some(-4096),
-        zero_rs1: false,
+        ..Pins::none()
     };
     assert_eq!(rt; job.hart_count(), 1);
     assert_eq!(rt; job.template(0), [item(Ins::Lui, pins)].as_slice());
+    Ok(())
+}
+
+#[test]
+fn reads_operands_that_are_left_open(rt: HostRuntime) -> Result<(), Fail> {
+    let some = RegisterSet::empty().with(0).with(31);
+    for (avoided, avoid) in [
+        (r#"{"ins":"add"}"#, RegisterSet::empty()),
+        (r#"{"ins":"add","avoid":[]}"#, RegisterSet::empty()),
+        (r#"{"ins":"add","avoid":[31,0,31]}"#, some),
+    ] {
+        let job = read_job(rt.alloc(), job_of(rt.alloc(), avoided)?.as_bytes())?;
+        let pins = Pins {
+            avoid,
+            ..Pins::none()
+        };
+        assert_eq!(rt;
+            job.template(0),
+            [item(Ins::Add, pins)].as_slice(),
+            "{avoided}"
+        );
+    }
     Ok(())
 }
 
@@ -103,12 +121,13 @@ fn reads_a_fence(rt: HostRuntime) -> Result<(), Fail> {
     for (request, fits) in [
         (r#"{"ins":"fence","imm":255}"#, true),
         (r#"{"ins":"fence","rd":0,"rs1":0,"imm":0}"#, true),
+        (r#"{"ins":"fence"}"#, true),
+        (r#"{"ins":"fence","avoid":[1]}"#, true),
         (r#"{"ins":"fence","imm":256}"#, false),
         (r#"{"ins":"fence","imm":-1}"#, false),
         (r#"{"ins":"fence","rd":1,"imm":0}"#, false),
         (r#"{"ins":"fence","rs1":1,"imm":0}"#, false),
         (r#"{"ins":"fence","rs2":0,"imm":0}"#, false),
-        (r#"{"ins":"fence"}"#, false),
     ] {
         let text = job_of(rt.alloc(), request)?;
         assert_eq!(rt; is_not_built(rt.alloc(), text.as_str()), !fits, "{request}");
@@ -129,9 +148,7 @@ fn reads_csr_requests(rt: HostRuntime) -> Result<(), Fail> {
         pins: Pins {
             rd: Some(5),
             rs1: Some(0),
-            rs2: None,
-            imm: None,
-            zero_rs1: false,
+            ..Pins::none()
         },
     };
     let read = Request::Csr {
@@ -139,10 +156,8 @@ fn reads_csr_requests(rt: HostRuntime) -> Result<(), Fail> {
         ins: Ins::Csrrs,
         pins: Pins {
             rd: Some(6),
-            rs1: None,
-            rs2: None,
-            imm: None,
             zero_rs1: true,
+            ..Pins::none()
         },
     };
     assert_eq!(rt;
@@ -160,6 +175,12 @@ fn accepts_what_a_template_may_do_with_csrs(rt: HostRuntime) -> Result<(), Fail>
         (r#"{"csr":"mstatus","op":"csrrs","rd":5,"rs1":0}"#, true),
         (r#"{"csr":"mhartid","op":"csrrc","rd":5,"rs1":0}"#, true),
         (r#"{"csr":"satp","op":"read","rd":0}"#, true),
+        (r#"{"csr":"satp","op":"read"}"#, true),
+        (r#"{"csr":"mscratch","op":"csrrw"}"#, true),
+        (r#"{"csr":"mscratch","op":"csrrw","rd":5}"#, true),
+        (r#"{"csr":"mscratch","op":"csrrw","rs1":0}"#, true),
+        (r#"{"csr":"mstatus","op":"csrrs","rs1":0}"#, true),
+        (r#"{"csr":"mstatus","op":"csrrs","rd":5}"#, false),
         (r#"{"csr":"mstatus","op":"csrrs","rd":5,"rs1":1}"#, false),
         (r#"{"csr":"mepc","op":"csrrw","rd":5,"rs1":0}"#, false),
         (r#"{"csr":"mhartid","op":"csrrw","rd":5,"rs1":0}"#, false),
@@ -171,10 +192,8 @@ fn accepts_what_a_template_may_do_with_csrs(rt: HostRuntime) -> Result<(), Fail>
         (r#"{"csr":"pmpaddr0","op":"read","rd":5}"#, false),
         (r#"{"csr":"misa","op":"read","rd":5}"#, false),
         (r#"{"csr":"mscratch","op":"read","rd":5,"rs1":0}"#, false),
-        (r#"{"csr":"mscratch","op":"csrrw","rd":5}"#, false),
         (r#"{"csr":"mscratch","op":"csrrwi","rd":5,"rs1":0}"#, false),
         (r#"{"csr":"mscratch","op":"addi","rd":5,"rs1":0}"#, false),
-        (r#"{"csr":"mscratch","op":"csrrw","rs1":0}"#, false),
         (
             r#"{"csr":"mscratch","op":"csrrw","rd":5,"rs1":0,"imm":0}"#,
             false,
@@ -349,8 +368,10 @@ fn refuses_other_requests(rt: HostRuntime) -> Result<(), Fail> {
         r#"{"ins":"csrrw","rd":1,"rs1":0}"#,
         r#"{"ins":"ecall"}"#,
         r#"{"ins":"addi","rd":"1","rs1":0,"imm":5}"#,
-        r#"{"ins":"addi","rd":1,"rs1":0}"#,
         r#"{"ins":"addi","rd":1,"rs1":0,"imm":5,"avoid":0}"#,
+        r#"{"ins":"addi","avoid":[32]}"#,
+        r#"{"ins":"addi","avoid":[1,"x2"]}"#,
+        r#"{"ins":"addi","avoids":[1]}"#,
     ] {
         let text = job_of(rt.alloc(), request)?;
         assert!(rt; is_not_built(rt.alloc(), text.as_str()), "{request}");
@@ -392,18 +413,18 @@ fn refuses_other_files(rt: HostRuntime) {
 
 #[test]
 fn reads_words_of_their_own(rt: HostRuntime) -> Result<(), Fail> {
-    for (name, sys) in [
-        ("ecall", Sys::Ecall),
-        ("ebreak", Sys::Ebreak),
-        ("zero", Sys::Zero),
-        ("sfence", Sys::Sfence),
+    for (request, sys) in [
+        (r#"{"sys":"ecall"}"#, Sys::Ecall),
+        (r#"{"sys":"ebreak"}"#, Sys::Ebreak),
+        (r#"{"sys":"zero"}"#, Sys::Zero),
+        (r#"{"sys":"sfence"}"#, Sys::Sfence),
+        (r#"{"sys":"ecall","avoid":[1,2]}"#, Sys::Ecall),
     ] {
-        let request = format!(in rt.alloc(); r#"{{"sys":"{name}"}}"#)?;
-        let job = read_job(rt.alloc(), job_of(rt.alloc(), &request)?.as_bytes())?;
+        let job = read_job(rt.alloc(), job_of(rt.alloc(), request)?.as_bytes())?;
         assert_eq!(rt;
             job.template(0),
             [Item::One(Request::Sys(sys))].as_slice(),
-            "{name}"
+            "{request}"
         );
     }
     Ok(())
@@ -417,7 +438,8 @@ fn accepts_no_other_word(rt: HostRuntime) -> Result<(), Fail> {
         r#"{"sys":"ECALL"}"#,
         r#"{"sys":0}"#,
         r#"{"sys":"ecall","rd":0}"#,
-        r#"{"sys":"ecall","avoid":[]}"#,
+        r#"{"sys":"ecall","avoid":[32]}"#,
+        r#"{"sys":"ecall","avoid":[],"imm":0}"#,
         r#"{"sys":"ecall","ins":"ecall"}"#,
         r#"{"sys":"ecall","csr":"mscratch","op":"read","rd":5}"#,
         r#"{"ins":"ecall"}"#,
