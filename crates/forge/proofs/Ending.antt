@@ -1,5 +1,5 @@
 -- How the words end, from an ending and its cause.
-use Rattle.std.proofs.Common.{ℕ, suc, ◌≡◌, ◌⊎◌, inl, inr, refl, sym, ap, ◌∙◌, subst, arith, List, [], ◌∷◌, ◌++◌, codes, length, Option, Some, None, IfSome, IsSomeAnd, Result, Ok, Err, IfErr, OnOk}
+use Rattle.std.proofs.Common.{ℕ, suc, ◌≡◌, ◌⊎◌, inl, inr, refl, sym, ap, ◌∙◌, subst, arith, List, [], ◌∷◌, ◌++◌, codes, length, Option, Some, None, IfSome, IsSomeAnd, Result, Ok, Err, IsErrAnd}
 use Rattle.std.specs.Prelude.{MatchOption, map, option_map, slice_get}
 use Rattle.std.proofs.lemmas.Option.{slice_get-map, slice_get_within}
 use Rattle.store_face.specs.State.{Held, State, Rose}
@@ -9,8 +9,8 @@ use Rattle.forge.specs.declared.stop.Stop.{Stop}
 use Rattle.forge.specs.declared.stop.Stop.TheVariants.{Usage, Unread, Unwritten, Refused, TooLong, Memory}
 use Rattle.forge.specs.Words.{Command, command_of, make_serial, replay}
 use Rattle.forge.specs.Generated.{counts_text, IsCountOf}
-use Rattle.forge.specs.Ends.{Ending, HasJudged, IsDone, agreed, differs, files_made, usage, unreadable, unwritten, rejected, too_long, out_of_memory, inputs, outputs, input_fault, AreHeld, Output, LeftBy, Unchanged, ToldOfBoth, KeepsOthers, Makes, Leaves, Causes, NoCommand, Serves, Ends}
-use Rattle.forge.specs.Stops.{ending_of, counts_body, IsTold, IsCause, WritesBy, IsMade, Becomes, IsStoppedWrite, StopsLate}
+use Rattle.forge.specs.Ends.{Ending, HasJudged, made_status, IsDone, agreed, differs, files_made, usage, unreadable, unwritten, rejected, too_long, out_of_memory, inputs, outputs, input_fault, AreHeld, Output, LeftBy, Unchanged, ToldOfBoth, KeepsOthers, Makes, Leaves, Causes, NoCommand, Serves, Ends}
+use Rattle.forge.specs.Stops.{ending_of, counts_body, IsTold, IsCause, EndsBy, IsMade, Becomes, IsStoppedWrite, StopsLate}
 use Rattle.forge.proofs.Leaving.{others_apart, stopped_since}
 
 -- ---- options
@@ -240,14 +240,22 @@ stopped_at c old new number harts lines left file ending at why = stopped ending
     })
     stopped ending why = absurd why
 
--- the writes came to their end, or stopped
-pub ends_written : (c : Command) (old mid new : State) (files : List Output) (counts : Counts) (result : Result (Unit {0}) Stop) (out : List ℕ)
-    → Unchanged old mid → IsMade c old files counts → out ≡ counts_body counts ++ codes "\n"
-    → OnOk result (Becomes mid new (LeftBy files (length (outputs c)))) → IfErr result (λ stop. StopsLate files mid new (ending_of stop))
-    → WritesBy (Causes c old new) result out
-ends_written c old mid new files counts (Ok u) out same m text written stopped =
-    (files_made m.harts m.lines, leaves c old mid new files counts (length (outputs c)) same.0 m written, (refl, text ∙ counts_line counts m.harts m.lines m.counted))
-ends_written c old mid new files counts (Err stop) out same m text written stopped =
+-- the writes came to their end
+pub ends_whole : (c : Command) (old mid new : State) (files : List Output) (counts : Counts) (status : ℕ) (out : List ℕ)
+    → Unchanged old mid → IsMade c old files counts → out ≡ counts_body counts ++ codes "\n" → Becomes mid new (LeftBy files (length (outputs c))) → status ≡ made_status counts.refused
+    → (ending : Ending) × Causes c old new ending × IsTold ending status out
+ends_whole c old mid new files counts status out same m text written is =
+    (files_made m.harts m.lines, leaves c old mid new files counts (length (outputs c)) same.0 m written, (is ∙ ap made_status m.counted.refused_is, text ∙ counts_line counts m.harts m.lines m.counted))
+
+-- or stopped
+pub ends_stopped : (c : Command) (old mid new : State) (files : List Output) (counts : Counts) (stop : Stop)
+    → Unchanged old mid → IsMade c old files counts → StopsLate files mid new (ending_of stop) → Causes c old new (ending_of stop)
+ends_stopped c old mid new files counts stop same m stopped =
     on_some (slice_get files stopped.number) (λ file. IsStoppedWrite file.name mid new (ending_of stop)) stopped.at_hand
     (λ file at why. stopped_at c old new stopped.number m.harts m.lines (leaves c old mid new files counts stopped.number same.0 m stopped.left) file
     (ending_of stop) at (stopped_since file.name old mid new (ending_of stop) (omega (arith, same.1)) why))
+
+-- a stop that is handed on
+pub handed_on : (Cause : Ending → Type 0) (result : Result ℕ Stop) (stop : Stop) (out : List ℕ) → IsErrAnd result (λ s. s ≡ stop) → Cause (ending_of stop) → EndsBy Cause result out
+handed_on Cause (Ok status) stop out is why = absurd is
+handed_on Cause (Err s) stop out is why = subst (λ s. Cause (ending_of s)) (sym is) why

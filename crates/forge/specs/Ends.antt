@@ -1,7 +1,7 @@
 -- How a command ends: why, what it leaves in the store, its status, and what it prints.
-use Rattle.std.specs.Prelude.{ℕ, suc, true, ◌≡◌, ◌↔◌, ◌≢◌, ◌<◌, ◌⊎◌, List, [], ◌∷◌, ◌++◌, length, take, codes, nat_lt, option_map, replicate, Option, Some, None, IfSome, IsSomeAnd, MatchOption, slice_get, if◌then◌else◌}
+use Rattle.std.specs.Prelude.{ℕ, suc, true, ◌≡◌, ◌↔◌, ◌≢◌, ◌<◌, ◌==◌, ◌⊎◌, List, [], ◌∷◌, ◌++◌, length, take, codes, nat_lt, option_map, replicate, Option, Some, None, IfSome, IsSomeAnd, MatchOption, slice_get, if◌then◌else◌}
 use Rattle.std.specs.Fmt.{decimal}
-use Rattle.std.specs.List.{AllByRecursion}
+use Rattle.std.specs.List.{AllByRecursion, count_by}
 use Rattle.std.specs.Option.{option_or}
 use Rattle.choice_tree.specs.Forest.{Forest, forest_in}
 use Rattle.region_plan.specs.Plan.{Work, hart_count}
@@ -23,7 +23,7 @@ use Rattle.trace_replay.specs.Verdicts.{IsVerdict, difference_seen, difference_t
 use Rattle.job_read.specs.Accepted.{job_in}
 use Rattle.store_face.specs.State.{Held, State, Rose}
 use Rattle.forge.specs.Words.{Command, MakingSerial, command_of, make_serial, replay}
-use Rattle.forge.specs.Generated.{IsRunOf, counts_text, drawn}
+use Rattle.forge.specs.Generated.{IsRunOf, counts_text, drawn, tells_refused}
 
 -- ---- endings, their statuses and what is printed
 
@@ -44,8 +44,12 @@ pub data Ending : Type 0 where
   too_long : List ℕ → ℕ → Ending
   out_of_memory : Ending
 
+-- a run with a refused request has a status of its own
+abbrev pub made_status : ℕ → ℕ
+made_status refused = if refused == 0 then 0 else 2
+
 abbrev pub status_of : Ending → ℕ
-status_of (files_made harts lines) = 0
+status_of (files_made harts lines) = made_status (count_by tells_refused lines)
 status_of (agreed steps) = 0
 status_of (differs difference) = 1
 status_of usage = 3

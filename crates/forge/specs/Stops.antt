@@ -96,10 +96,6 @@ IsCause words old new ending = MatchOption (command_of words) (NoCommand old new
 abbrev pub EndsBy : (Ending → Type 0) → Result ℕ Stop → List ℕ → Type 0
 EndsBy Cause result out = MatchResult result (λ status. (ending : Ending) × Cause ending × IsTold ending status out) (λ stop. Cause (ending_of stop))
 
--- the same, where success has the status 0
-abbrev pub WritesBy : (Ending → Type 0) → Result (Unit {0}) Stop → List ℕ → Type 0
-WritesBy Cause result out = MatchResult result (λ _. (ending : Ending) × Cause ending × IsTold ending 0 out) (λ stop. Cause (ending_of stop))
-
 -- ---- reads
 
 -- what the file of the name holds was read; none, where it has more than so many bytes

@@ -40,10 +40,7 @@ impl<'a> Command<'a> {
         ensures { EndsBy (Causes (command_seen self.now) (S.state store.old) (S.state store.new)) result out.new.items }
     {
         match self {
-            Command::MakeSerial(command) => {
-                command.run(alloc, store, out)?;
-                Ok(0)
-            }
+            Command::MakeSerial(command) => command.run(alloc, store, out),
             Command::Replay(command) => command.run(alloc, store, out),
         }
     }

@@ -1,4 +1,5 @@
-ghost use Rattle.std.specs.Prelude.{Some};
+ghost use Rattle.std.specs.Prelude.{◌≡◌, Some};
+ghost use Rattle.forge.specs.Ends.{made_status};
 
 use std::fmt;
 
@@ -12,6 +13,15 @@ pub struct Counts {
     pub done: u64,
     /// The requests that were refused.
     pub refused: u64,
+}
+
+impl Counts {
+    /// The exit status of the run: 0, or 2 where a request was refused.
+    pub(crate) fn status(self) -> u8
+        ensures { result ≡ made_status self.refused }
+    {
+        if self.refused == 0 { 0 } else { 2 }
+    }
 }
 
 impl fmt::Display for Counts {

@@ -32,7 +32,7 @@ pub(crate) struct MakeSerial<'a> {
 }
 
 impl<'a> MakeSerial<'a> {
-    ghost use Rattle.forge.specs.Stops.{making_seen, serial_seen, ending_of, WritesBy, files_of, IsMade, IsMadeFrom, IsStoppedForm, Becomes, StopsLate};
+    ghost use Rattle.forge.specs.Stops.{making_seen, serial_seen, ending_of, EndsBy, files_of, IsMade, IsMadeFrom, IsStoppedForm, Becomes, StopsLate};
 
     /// What the words behind the command's name ask for, if they are JOB TREES SEED ELF ORDER TRACE.
     pub(crate) fn parse(words: &'a [String]) -> Option<MakeSerial<'a>>
@@ -63,18 +63,19 @@ impl<'a> MakeSerial<'a> {
         })
     }
 
-    /// Makes and writes the three files. The line to print is in `out` before the first write.
+    /// Makes and writes the three files. The result is the status. The line to print is in `out` before the first write.
     pub(crate) fn run<S: Store>(
         &self,
         alloc: Global,
         store: &mut S,
         out: &mut Vec<u8>,
-    ) -> Result<(), Stop<'a>>
-        ensures { WritesBy (Causes (serial_seen self.now) (S.state store.old) (S.state store.new)) result out.new.items }
+    ) -> Result<u8, Stop<'a>>
+        ensures { EndsBy (Causes (serial_seen self.now) (S.state store.old) (S.state store.new)) result out.new.items }
     {
         let made = self.make(alloc, store)?;
         write_line(alloc, made.counts, out)?;
-        self.write(store, &made)
+        self.write(store, &made)?;
+        Ok(made.counts.status())
     }
 
     /// Makes the three files from what the store holds.

@@ -8,6 +8,7 @@ use std::test::Fail;
 use store_face::MemStore;
 
 mod boots;
+mod draws;
 mod faults;
 mod harts;
 mod replays;

@@ -13,8 +13,9 @@ use store_face::Store;
 ///
 /// | status | meaning |
 /// |---|---|
-/// | 0 | the three files are written, or the trace tells what the program does |
+/// | 0 | the three files are written and no request was refused, or the trace tells what the program does |
 /// | 1 | the trace tells otherwise than the program does |
+/// | 2 | the three files are written, and some request was refused, which the trace tells |
 /// | 3 | the words are not a command |
 /// | 4 | a file can't be read |
 /// | 5 | a file can't be written |
