@@ -5,7 +5,8 @@ use Rattle.std.specs.Str.{bytes_eq}
 use Rattle.std.proofs.lemmas.Slice.Eq.{bytes_eq-Decides}
 use Rattle.std.specs.List.{list_any}
 use Rattle.std.proofs.lemmas.Bool.{and_parts}
-use Rattle.forge.specs.Words.{making_of, replaying_of, seed_of, are_files, are_different, is_option}
+use Rattle.forge.specs.Words.{making_of, replaying_of, seed_of, are_files, is_option}
+use Rattle.rv_fields.specs.Name.{are_different}
 
 -- a test of what references point to
 pub any_seen : (p : List ℕ → Bool) (words : List (Bor (List ℕ))) → list_any p (map (λ word. word.now) words) ≡ list_any (λ word. p word.now) words

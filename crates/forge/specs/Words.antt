@@ -2,6 +2,7 @@
 use Rattle.std.specs.Prelude.{ℕ, ◌*◌, ◌+◌, ◌-◌, ◌^◌, List, [], ◌∷◌, length, codes, Bool, true, false, not, nat_lt, nat_le, ◌==◌, ◌&&◌, Option, Some, None, option_map, if◌then◌else◌}
 use Rattle.std.specs.List.{list_all, list_any}
 use Rattle.std.specs.Str.{bytes_eq}
+use Rattle.rv_fields.specs.Name.{are_different}
 use Rattle.rv_fields.specs.Attempt.{◌>>=◌}
 
 -- the files and the seed of make-serial
@@ -27,11 +28,6 @@ pub data Command : Type 0 where
 abbrev pub is_option : List ℕ → Bool
 is_option [] = false
 is_option (b ∷ bs) = b == 0x2d
-
--- no two of the words are the same
-abbrev pub are_different : List (List ℕ) → Bool
-are_different [] = true
-are_different (w ∷ ws) = not (list_any (bytes_eq w) ws) && are_different ws
 
 -- the words name different files, and none is an option
 abbrev pub are_files : List (List ℕ) → Bool

@@ -1,6 +1,7 @@
 ghost use Rattle.std.specs.Prelude.{◌≡◌, map};
 ghost use Rattle.std.specs.List.{list_any};
 ghost use Rattle.std.specs.Str.{bytes_eq};
+ghost use Rattle.rv_fields.specs.Name as Name;
 ghost use Rattle.forge.specs.Words as Words;
 ghost use Rattle.forge.specs.Parts.{number_behind};
 
@@ -67,7 +68,7 @@ fn is_among(word: &str, others: &[&str]) -> bool
 /// Whether no two of the words are the same.
 #[tactic(auto, using(crate::proofs::Names::first_differs))]
 fn are_different(words: &[&str]) -> bool
-    ensures { result ≡ Words.are_different (map (λ word. word.now) words.now) }
+    ensures { result ≡ Name.are_different (map (λ word. word.now) words.now) }
 {
     let Some((first, rest)) = words.split_first() else {
         return true;

@@ -9,7 +9,7 @@ use std::{fmt, str};
 const LONGEST: usize = 24;
 
 /// A name: a string of 1 to 24 bytes, each a letter `a` to `z`, a digit, `_` or `.`.
-#[derive(Clone, Copy, Debug, PartialEq, Eq)]
+#[derive(Clone, Copy, Debug, PartialEq, Eq, Hash)]
 pub struct Name {
     len: usize,
     /// The bytes of the name, and zeros behind them.

@@ -1,7 +1,7 @@
 use Rattle.std.proofs.Common.{map, Bool, sym, ◌∙◌}
 use Rattle.std.specs.List.{list_any}
 use Rattle.std.specs.Str.{bytes_eq}
-use Rattle.forge.specs.Words.{are_different}
+use Rattle.rv_fields.specs.Name.{are_different}
 use Rattle.forge.proofs.Names.{first_differs, first_passes, first_fails}
 use Rattle.forge.proofs.words.+are_different.Goals as goal
 

@@ -1,6 +1,7 @@
 use Rattle.std.proofs.Common.{List, ℕ, map, sym, ◌∙◌}
 use Rattle.std.specs.List.{list_any}
-use Rattle.forge.specs.Words.{is_option, are_different}
+use Rattle.forge.specs.Words.{is_option}
+use Rattle.rv_fields.specs.Name.{are_different}
 use Rattle.forge.proofs.Names.{any_seen, first_passes, first_fails}
 use Rattle.forge.proofs.words.are_files.Goals as goal
 
