@@ -1,6 +1,6 @@
 -- Picks from weighted choice trees.
 use Rattle.std.specs.Option.{option_map_or}
-use Rattle.std.specs.Prelude.{Bool, List, None, Option, Some, bytes_eq, drop, false, find, map, nat_lt, ℕ, ◌+◌, ◌-◌, ◌/◌, ◌%◌, ◌==◌, ◌&&◌, ◌||◌, ◌∷◌, [], if◌then◌else◌}
+use Rattle.std.specs.Prelude.{Bool, List, None, Option, Some, bytes_eq, drop, false, find, map, nat_lt, ℕ, ◌+◌, ◌-◌, ◌/◌, ◌%◌, ◌==◌, ◌&&◌, ◌||◌, ◌∷◌, [], if◌then◌else◌, position, slice_get}
 use Rattle.rv_fields.specs.Name.{Name}
 use Rattle.choice_tree.specs.Forest.{Forest, Tree, Nodes, no_nodes, leaf_of, node_of}
 
@@ -53,3 +53,11 @@ kids_of forest name = option_map_or (λ (t : Tree). t.kids) (find (λ t. bytes_e
 abbrev pub with_weight : Forest → Name → List Name → ℕ → Forest
 with_weight forest name path weight =
     map (λ (t : Tree). if bytes_eq t.name name then record t { kids = reweighed path weight t.kids } else t) forest
+
+-- the kids of the tree at a place in the file
+abbrev pub kids_at : Forest → ℕ → Nodes
+kids_at forest number = option_map_or (λ (t : Tree). t.kids) (slice_get forest number) no_nodes
+
+-- the place in the file of the tree of a name
+abbrev pub tree_number : Forest → Name → Option ℕ
+tree_number forest name = position (λ (t : Tree). bytes_eq t.name name) forest

@@ -2,10 +2,13 @@
 #![tactic(auto)]
 
 mod draws;
+mod kids;
+mod names;
+mod reading;
 mod trees;
 
 pub use draws::DrawWords;
-pub use trees::Trees;
+pub use trees::{Leaf, Trees};
 
 #[cfg(test)]
 mod tests;
