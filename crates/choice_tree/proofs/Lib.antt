@@ -1,2 +1,11 @@
 pub mod Drawing
 pub mod Examples
+pub mod Labels
+pub mod Each
+pub mod Different
+pub mod Weights
+pub mod Keys
+pub mod Picks
+pub mod Levels
+pub mod Forests
+pub mod Settings
