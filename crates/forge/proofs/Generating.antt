@@ -1,5 +1,5 @@
 -- What the files of a run are.
-use Rattle.std.proofs.Common.{ℕ, ◌≡◌, List, [], Some, Result, Ok, Err, IfOk, ◌∙◌}
+use Rattle.std.proofs.Common.{ℕ, ◌≡◌, List, Some, Result, Ok, Err, IfOk, ◌∙◌}
 use Rattle.elf_file.specs.Loading.{load}
 use Rattle.elf_file.specs.Writing.{elf_of}
 use Rattle.choice_tree.specs.Forest.{Forest}
@@ -41,14 +41,14 @@ files_of work trees seed events elf order trace lines harts is_trace is_order in
 }
 
 -- The files that are made from logs are those of a run under the schedule, where the logs are those of such a run.
-pub run_under : {E : Type 0} (work : Work) (seed : ℕ) (schedule : Schedule) (logs : List LogSeen) (result : Result Made E)
+pub run_under : {E : Type 0} (work : Work) (trees : Forest) (seed : ℕ) (schedule : Schedule) (logs : List LogSeen) (result : Result Made E)
     → (events : List Event) × AreLogsOf work seed logs events × Follows schedule (hart_count work) seed events
     → IfOk result (λ (made : Made). (lines : List Line)
-    × ((seed : ℕ) (events : List Event) → AreLogsOf work seed logs events → AreFilesOf work [] seed events made.elf.items made.order.items made.trace.items lines)
+    × ((trees : Forest) (seed : ℕ) (events : List Event) → AreLogsOf work seed logs events → AreFilesOf work trees seed events made.elf.items made.order.items made.trace.items lines)
     × IsCountOf made.counts (hart_count work) lines)
     → IfOk result (λ (made : Made). (lines : List Line)
-    × IsRunOf work [] seed schedule made.elf.items made.order.items made.trace.items lines
+    × IsRunOf work trees seed schedule made.elf.items made.order.items made.trace.items lines
     × IsCountOf made.counts (hart_count work) lines)
-run_under work seed schedule logs (Ok made) run files =
-    (files.0, record { events = run.0; files = files.1 seed run.0 run.1; turns = run.2 }, files.2)
-run_under work seed schedule logs (Err e) run files = tt
+run_under work trees seed schedule logs (Ok made) run files =
+    (files.0, record { events = run.0; files = files.1 trees seed run.0 run.1; turns = run.2 }, files.2)
+run_under work trees seed schedule logs (Err e) run files = tt

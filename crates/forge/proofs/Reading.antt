@@ -1,6 +1,6 @@
 -- The files that a command reads, one after another.
-use Rattle.std.proofs.Common.{ℕ, suc, ◌+◌, ◌≡◌, ◌≤◌, ◌<◌, refl, sym, ap, ◌∙◌, subst, arith, inl, inr, List, [], ◌∷◌, ◌++◌, length, get_or, map, take, replicate, Bor, Bool, true, false, nat_lt, Option, Some, None, IfSome, IsSomeAnd, append_assoc, codes}
-use Rattle.std.specs.Prelude.{MatchOption, option_map, slice_get, if◌then◌else◌}
+use Rattle.std.proofs.Common.{ℕ, suc, ◌+◌, ◌≡◌, ◌≤◌, ◌<◌, refl, sym, ap, ◌∙◌, subst, arith, inl, inr, List, [], ◌∷◌, ◌++◌, length, get_or, map, take, replicate, Bor, Bool, true, false, nat_lt, Option, Some, None, Result, Ok, Err, IfSome, IsSomeAnd, append_assoc, codes}
+use Rattle.std.specs.Prelude.{MatchOption, MatchResult, is_ok, option_map, slice_get, if◌then◌else◌}
 use Rattle.std.specs.Fmt.{decimal}
 use Rattle.std.specs.List.{AllByRecursion}
 use Rattle.std.specs.Option.{option_or}
@@ -8,7 +8,9 @@ use Rattle.std.proofs.lemmas.Bool.Decides.{nat_tests}
 use Rattle.std.proofs.lemmas.List.{length-replicate, map-append, take-map, take_more}
 use Rattle.std.proofs.lemmas.Option.{slice_get-map, slice_get-get_or}
 use Rattle.store_face.specs.State.{Held, State, Rose}
-use Rattle.choice_tree.specs.Forest.{forest_in}
+use Rattle.choice_tree.specs.Forest.{Forest, forest_in}
+use Rattle.json_keys.specs.declared.input.InputFault.{InputFault}
+use Rattle.json_keys.specs.Input.{ReadsAs}
 use Rattle.region_plan.specs.Plan.{Work, hart_count}
 use Rattle.trace_text.specs.Lines.{Line}
 use Rattle.job_read.specs.Accepted.{job_in}
@@ -318,10 +320,17 @@ accepted : (m : MakingSerial) (contents : List (List ℕ)) (files : List Output)
 accepted m contents files harts lines run = rw (run.contents_are, run.job_read, run.trees_read) refl
 
 -- a run of what the contents spell
-pub made_from : (m : MakingSerial) (job trees : List ℕ) (made : Made) (work : Work) (lines : List Line) → job_in job ≡ Some work → forest_in trees ≡ Some []
-    → IsRunOf work [] m.seed drawn made.elf.items made.order.items made.trace.items lines → IsCountOf made.counts (hart_count work) lines
+-- what a file was read as, where a fault only gets another form
+pub read_so : {X Y F : Type 0} (f : X → Y) (P : InputFault → Type 0) (read : Result X InputFault) (told : Result X F) (x : X) (m : Option Y) → ReadsAs f read m
+    → MatchResult read (λ a. told ≡ Ok a) P → is_ok told ≡ is_ok read → told ≡ Ok x → m ≡ Some (f x)
+read_so f P (Ok a) told x m reads same both is = let at : Ok a ≡ Ok x = sym same ∙ is in let one : a ≡ x = cc in reads ∙ ap (λ y. Some (f y)) one
+read_so f P (Err e) told x m reads same both is = absurd (let no : true ≡ false = ap is_ok (sym is) ∙ both in cc)
+
+-- the files that make-serial makes
+pub made_from : (m : MakingSerial) (job trees : List ℕ) (made : Made) (work : Work) (forest : Forest) (lines : List Line) → job_in job ≡ Some work → forest_in trees ≡ Some forest
+    → IsRunOf work forest m.seed drawn made.elf.items made.order.items made.trace.items lines → IsCountOf made.counts (hart_count work) lines
     → IsMadeFrom m job trees made
-made_from m job trees made work lines job_read trees_read run counts = record {
+made_from m job trees made work forest lines job_read trees_read run counts = record {
   harts = hart_count work;
   lines = lines;
   run = record {
@@ -329,7 +338,7 @@ made_from m job trees made work lines job_read trees_read run counts = record {
     trees = trees;
     contents_are = refl;
     work = work;
-    forest = [];
+    forest = forest;
     job_read = job_read;
     trees_read = trees_read;
     harts_are = refl;

@@ -1,4 +1,5 @@
-ghost use Rattle.std.specs.Prelude.{◌≡◌, [], ℕ, List, IfOk, count_by, map};
+ghost use Rattle.std.specs.Prelude.{◌≡◌, ℕ, List, IfOk, count_by, map};
+ghost use Rattle.choice_tree.specs.Forest.{Forest};
 ghost use Rattle.region_plan.specs.Plan.{hart_count};
 ghost use Rattle.region_plan.specs.Views.{work_of};
 ghost use Rattle.region_plan.specs.Rules.{KeepsRules};
@@ -32,7 +33,7 @@ pub fn make_with(
 ) -> Result<Made, NoMemory>
     requires rules { KeepsRules (work_of job.now) }
     ensures run { IfOk result (λ made. (lines : List told.Line)
-        × IsRunOf (work_of job.now) [] seed (listed schedule.now) made.elf.items made.order.items made.trace.items lines
+        × IsRunOf (work_of job.now) trees.now seed (listed schedule.now) made.elf.items made.order.items made.trace.items lines
         × IsCountOf made.counts (hart_count (work_of job.now)) lines) }
 {
     let _ = trees;
@@ -46,7 +47,7 @@ pub fn make_with(
 pub fn make_serial(alloc: Global, job: &Job, trees: &Trees, seed: u64) -> Result<Made, NoMemory>
     requires rules { KeepsRules (work_of job.now) }
     ensures run { IfOk result (λ made. (lines : List told.Line)
-        × IsRunOf (work_of job.now) [] seed drawn made.elf.items made.order.items made.trace.items lines
+        × IsRunOf (work_of job.now) trees.now seed drawn made.elf.items made.order.items made.trace.items lines
         × IsCountOf made.counts (hart_count (work_of job.now)) lines) }
 {
     let _ = trees;
@@ -59,8 +60,8 @@ fn make_files(alloc: Global, job: &Job, logs: Vec<HartLog>) -> Result<Made, NoMe
     requires rules { KeepsRules (work_of job.now) }
     requires logs { (seed : ℕ) × (events : List events.Event) × AreLogsOf (work_of job.now) seed (map log_seen logs.items) events }
     ensures files { IfOk result (λ made. (lines : List told.Line)
-        × ((seed : ℕ) (events : List events.Event) → AreLogsOf (work_of job.now) seed (map log_seen logs.items) events
-        → AreFilesOf (work_of job.now) [] seed events made.elf.items made.order.items made.trace.items lines)
+        × ((trees : Forest) (seed : ℕ) (events : List events.Event) → AreLogsOf (work_of job.now) seed (map log_seen logs.items) events
+        → AreFilesOf (work_of job.now) trees seed events made.elf.items made.order.items made.trace.items lines)
         × IsCountOf made.counts (hart_count (work_of job.now)) lines) }
 {
     let run = merge(alloc, job, logs)?;

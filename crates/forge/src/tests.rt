@@ -193,6 +193,19 @@ fn more_pages_of_code_change_no_file(rt: HostRuntime) -> Result<(), Fail> {
     Ok(())
 }
 
+/// No request names a tree.
+#[test]
+fn trees_change_no_file(rt: HostRuntime) -> Result<(), Fail> {
+    let store = assert_made(&rt, rt.alloc(), JOB, "7", LINE)?;
+    let trees = br#"{"version":1,"trees":[{"name":"t","kids":[{"leaf":"add","weight":1}]}]}"#;
+    let mut other = holding(rt.alloc(), JOB, trees)?;
+    assert_ends(&rt, rt.alloc(), &WORDS, &mut other, 0, LINE)?;
+    for name in ["e", "o", "r"] {
+        assert_holds(&rt, &other, name, store.files.get(name).ok_or("no file")?)?;
+    }
+    Ok(())
+}
+
 #[test]
 fn an_empty_template_has_one_step(rt: HostRuntime) -> Result<(), Fail> {
     let line = "harts 1 steps 1 done 0 refused 0\n";

@@ -1,5 +1,5 @@
 -- The files are those of the run, and the numbers those of its lines.
-use Rattle.std.proofs.Common.{◌≡◌, [], ◌++◌, ap, subst, ◌∙◌, Some}
+use Rattle.std.proofs.Common.{◌≡◌, ◌++◌, ap, subst, ◌∙◌, Some}
 use Rattle.elf_file.specs.Loading.{load}
 use Rattle.elf_file.specs.Writing.{elf_of}
 use Rattle.ram_image.specs.Segments.{stretches, memory_of}
@@ -24,7 +24,7 @@ returns c =
     record {
       files = (
         run_lines run,
-        (λ seed events are. files_of work [] seed events _ _ _ (run_lines run) (images_of run.harts.items)
+        (λ trees seed events are. files_of work trees seed events _ _ _ (run_lines run) (images_of run.harts.items)
             (c.in_ok-write_trace.ensures.text
             ∙ ap (λ bs. bs ++ trace_text c.hart_count-harts.result (lines_seen c.lines.result.now)) c.new-trace.ensures.items
             ∙ ap (λ n. trace_text n (lines_seen c.lines.result.now)) count
@@ -40,7 +40,7 @@ returns c =
             ∙ c.in_ok-write_elf.ensures.loaded a
             ∙ ap (λ ss. Some (memory_of (stretches ss) a)) c.as_slice.ensures.value
             ∙ ap Some (c.in_ok-segments.ensures.image work merged.plan merged.program a))
-            merged.boots merged.justified (merged.answers [] seed events are)),
+            merged.boots merged.justified (merged.answers trees seed events are)),
         subst (λ n. IsCountOf c.counts_of-counts.result n (run_lines run)) count
             (subst (λ ls. IsCountOf c.counts_of-counts.result c.hart_count-harts.result (lines_seen ls)) c.lines-2.ensures c.counts_of-counts.ensures),
       );

@@ -11,5 +11,5 @@ make_files-requires-clause-logs c = let run = c.in_ok-logs.ensures.run in (c.arg
 
 pub returns : goal.returns
 returns c = record {
-  run = run_under (work_of c.args.job.now) c.args.seed drawn (map log_seen c.in_ok-logs.logs.items) c.make_files.result c.in_ok-logs.ensures.run c.make_files.ensures.files;
+  run = run_under (work_of c.args.job.now) c.args.trees.now c.args.seed drawn (map log_seen c.in_ok-logs.logs.items) c.make_files.result c.in_ok-logs.ensures.run c.make_files.ensures.files;
 }
